@@ -1,0 +1,30 @@
+-- Integers that an `i64` holds. A local of the code holds bits: where the code reads x back, a need says `toZ w64 (ofZ w64 x)`, and
+-- `toZ-ofZ` of `mir.Facts` is x again for an x that fits. A test `x == y` is a fact of the bits (`same-bits`), and `<` and `<=` are
+-- tests of the integers (`Parts`, `int`). Assumes nothing.
+use mathlib.Core.Path.{_≡_, sym, ap, _∙_}
+use Prim.Native.Nat.{_^_, _<_}
+use lib.IntN.{ℤ, pos, natAbs}
+use lib.Signed.{quotZ, remZ}
+use mir.Syntax.{w64}
+use mir.Val.{SFits, toZ, ofZ}
+use mir.Facts.{toZ-ofZ}
+use Rattle.integers.proofs.Parts.{parts, halved, int}
+
+-- a small absolute value
+pub fits-abs : (z : ℤ) → natAbs z < 2 ^ 63 → SFits w64 z
+fits-abs z h = omega (int, parts z)
+
+-- two numbers that fit are equal where their bits are
+pub same-bits : (a b : ℤ) → SFits w64 a → SFits w64 b → ofZ w64 a ≡ ofZ w64 b → a ≡ b
+same-bits a b f g e = sym (toZ-ofZ f) ∙ ap (toZ w64) e ∙ toZ-ofZ g
+
+-- and differ where their bits do
+pub other-bits : (a b : ℤ) → (ofZ w64 a ≡ ofZ w64 b → ⊥) → a ≡ b → ⊥
+other-bits a b h e = h (ap (ofZ w64) e)
+
+-- the quotient and the remainder by 2
+pub quot2-fits : {z : ℤ} → SFits w64 z → SFits w64 (quotZ z (pos 2))
+quot2-fits {z} f = omega (int, halved z, parts z, parts (quotZ z (pos 2)))
+
+pub rem2-fits : {z : ℤ} → SFits w64 z → SFits w64 (remZ z (pos 2))
+rem2-fits {z} f = omega (int, halved z, parts z, parts (remZ z (pos 2)))

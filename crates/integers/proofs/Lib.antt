@@ -1,0 +1,11 @@
+pub mod Tests
+pub mod Parts
+pub mod Abs
+pub mod Ring
+pub mod Expr
+pub mod Sign
+pub mod Sums
+pub mod I64
+pub mod Stores
+pub mod Diff
+pub mod Examples

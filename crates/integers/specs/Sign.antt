@@ -1,0 +1,8 @@
+-- The sign of an integer: −1, 0 or 1. Assumes nothing: this is a definition.
+use Prim.Native.Nat.{zero, suc}
+use lib.IntN.{ℤ, pos, negsuc}
+
+abbrev pub sgnℤ : ℤ → ℤ
+sgnℤ (pos zero) = pos 0
+sgnℤ (pos (suc n)) = pos 1
+sgnℤ (negsuc n) = negsuc 0

@@ -1,0 +1,4 @@
+// Integers for the crates above.
+pub fn same(x: u64) -> u64 {
+    x
+}

@@ -1,0 +1,9 @@
+pub mod Lists
+pub mod Digits
+pub mod Tallies
+pub mod Blocks
+pub mod Unique
+pub mod Monotone
+pub mod Size
+pub mod Queries
+pub mod Extend
