@@ -1,14 +1,12 @@
 -- A whole number as a difference of two natural numbers: `Diff z a b` says z = a − b, so that omega does the rest. Assumes nothing.
-use mathlib.Core.Path.{_≡_, refl, sym, ap, _∙_, subst}
-use mathlib.Core.Logic.{_⊎_, inl, inr}
+use mathlib.Core.Path.{_≡_, refl, sym, ap, subst}
 use mathlib.Core.Bool.{Bool, true, false, not, cond}
-use Prim.Native.Nat.{ℕ, zero, suc, _+_, _*_, _-_, _<_, _≤_}
+use Prim.Native.Nat.{ℕ, zero, suc, _+_, _-_}
 use native.Mathlib.Omega.{arith}
-use native.Mathlib.Nat.{one-mul, mul-one}
-use lib.Dec.{T, ltb, ltb→lt, nltb→le, lt→ltb}
-use lib.Arith.{le→nltb}
-use lib.IntN.{ℤ, pos, negsuc, _+ℤ_, _*ℤ_, negℤ, subℕ, zero-*ℤ}
-use Rattle.integers.proofs.Tests.{bool-cases, T-of, not-T-of}
+use native.Mathlib.Nat.{one-mul}
+use lib.Dec.{T, ltb, ltb→lt, nltb→le}
+use lib.IntN.{ℤ, pos, negsuc, _+ℤ_, _*ℤ_, negℤ, subℕ}
+use Rattle.integers.proofs.Tests.{T-of}
 
 abbrev pub DiffAt : ℤ → ℕ → ℕ → Type 0
 DiffAt (pos k) a b = a ≡ k + b

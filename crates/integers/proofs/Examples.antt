@@ -1,5 +1,5 @@
 -- A worked example of each use of the kit. Copy the one that is nearest.
-use mathlib.Core.Path.{_≡_}
+use mathlib.Core.Path.{_≡_, refl, sym, _∙_}
 use Prim.Native.Nat.{ℕ, _+_, _^_, _≤_}
 use lib.IntN.{ℤ, pos, negsuc, natAbs, _+ℤ_, _-ℤ_, _*ℤ_}
 use lib.Signed.{leZ, quotZ, _≤ℤ_, _<ℤ_}
@@ -9,6 +9,12 @@ use mir.Val.{SFits}
 use Rattle.integers.proofs.Parts.{int, parts, side, sum, dif, times, halved, ne-parts}
 use Rattle.integers.proofs.Ring.{groupℤ, ringℤ}
 use Rattle.integers.proofs.Expr.{‵_, _⊞_, _⊟_, linear}
+use native.Mathlib.Omega.{arith}
+use Rattle.integers.specs.declared.Half.the-variants.{Whole, Odd}
+use Rattle.integers.specs.Half.{halfOf}
+use Rattle.integers.specs.Range.{isWithin}
+use Rattle.integers.proofs.Halves.{half-means, abs-half}
+use Rattle.integers.proofs.Ranges.{within-abs}
 
 -- ---- identities, with nothing to name: `simp groupℤ` for sums and differences, `simp ringℤ` for products too
 cancels : (a b c : ℤ) → (a +ℤ b) -ℤ (c +ℤ a) ≡ b -ℤ c
@@ -88,6 +94,19 @@ fits-sum a b h k = omega (int, sum a b, parts a, parts b, parts (a +ℤ b))
 
 fits-half : (a : ℤ) → SFits w64 a → natAbs (quotZ a (pos 2)) ≤ 2 ^ 62
 fits-half a h = omega (int, halved a, parts a, side a, parts (quotZ a (pos 2)))
+
+-- ---- halves and ranges: what a call's promise gives its caller
+half-known : (x h : ℤ) → Whole h ≡ halfOf x → h +ℤ h ≡ x
+half-known x h e = half-means x (Whole h) e
+
+half-within : (x h : ℤ) (k : ℕ) → Whole h ≡ halfOf x → natAbs x ≤ k + k → natAbs h ≤ k
+half-within x h k e b = let d = half-means x (Whole h) e in omega (arith, abs-half x h d)
+
+no-half : (x : ℤ) → Odd ≡ halfOf (x +ℤ x) → ⊥
+no-half x e = half-means (x +ℤ x) Odd e x refl
+
+in-range : (x : ℤ) → isWithin x (pos 64) ≡ true → natAbs x ≤ 64
+in-range x t = let e = within-abs x 64 in omega (int, sym e ∙ t)
 
 -- ---- how far it goes: six equations, nine integers
 unique : (q0 q1 q2 z p m z′ p′ m′ : ℤ)

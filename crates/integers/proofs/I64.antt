@@ -2,13 +2,14 @@
 -- `toZ-ofZ` of `mir.Facts` is x again for an x that fits. A test `x == y` is a fact of the bits (`same-bits`), and `<` and `<=` are
 -- tests of the integers (`Parts`, `int`). Assumes nothing.
 use mathlib.Core.Path.{_≡_, sym, ap, _∙_}
-use Prim.Native.Nat.{_^_, _<_}
-use lib.IntN.{ℤ, pos, natAbs}
-use lib.Signed.{quotZ, remZ}
+use Prim.Native.Nat.{ℕ, suc, _^_, _/_, _<_}
+use native.Mathlib.Nat.{div-le-self}
+use lib.IntN.{ℤ, pos, negsuc, negℤ, natAbs}
+use lib.Signed.{quotZ, remZ, mag-rem}
 use mir.Syntax.{w64}
 use mir.Val.{SFits, toZ, ofZ}
 use mir.Facts.{toZ-ofZ}
-use Rattle.integers.proofs.Parts.{parts, halved, int}
+use Rattle.integers.proofs.Parts.{parts, mag-is, neg, int}
 
 -- a small absolute value
 pub fits-abs : (z : ℤ) → natAbs z < 2 ^ 63 → SFits w64 z
@@ -22,9 +23,20 @@ same-bits a b f g e = sym (toZ-ofZ f) ∙ ap (toZ w64) e ∙ toZ-ofZ g
 pub other-bits : (a b : ℤ) → (ofZ w64 a ≡ ofZ w64 b → ⊥) → a ≡ b → ⊥
 other-bits a b h e = h (ap (ofZ w64) e)
 
--- the quotient and the remainder by 2
+-- the quotient by a natural number, and every remainder
+pub quot-fits : {z : ℤ} (k : ℕ) → SFits w64 z → SFits w64 (quotZ z (pos k))
+quot-fits {z} k f = go z f
+  where
+    go : (z : ℤ) → SFits w64 z → SFits w64 (quotZ z (pos k))
+    go (pos a) f = omega (int, div-le-self a k)
+    go (negsuc a) f = let q = pos (suc a / k) in omega (int, div-le-self (suc a) k, neg q, mag-is (negℤ q))
+
+pub rem-fits : {z : ℤ} (d : ℤ) → SFits w64 z → SFits w64 (remZ z d)
+rem-fits {z} d f = omega (int, mag-rem z d)
+
+-- both by 2
 pub quot2-fits : {z : ℤ} → SFits w64 z → SFits w64 (quotZ z (pos 2))
-quot2-fits {z} f = omega (int, halved z, parts z, parts (quotZ z (pos 2)))
+quot2-fits f = quot-fits 2 f
 
 pub rem2-fits : {z : ℤ} → SFits w64 z → SFits w64 (remZ z (pos 2))
-rem2-fits {z} f = omega (int, halved z, parts z, parts (remZ z (pos 2)))
+rem2-fits f = rem-fits (pos 2) f

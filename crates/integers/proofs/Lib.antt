@@ -1,3 +1,4 @@
+-- Laws of integers: linear arithmetic, identities, sizes, signs, sums, machine numbers, halves and ranges. `Examples` is the guide.
 pub mod Tests
 pub mod Parts
 pub mod Abs
@@ -9,3 +10,5 @@ pub mod I64
 pub mod Stores
 pub mod Diff
 pub mod Examples
+pub mod Halves
+pub mod Ranges

@@ -7,3 +7,9 @@ pub mod Monotone
 pub mod Size
 pub mod Queries
 pub mod Extend
+pub mod Stores
+pub mod Merge
+pub mod Merging
+pub mod Adapting
+pub mod Digitwise
+pub mod BitQuery

@@ -1,3 +1,5 @@
 pub mod Lists
 pub mod Signs
 pub mod Adapted
+pub mod Bits
+pub mod Split
