@@ -1,5 +1,7 @@
 pub mod Lists
+pub mod Positions
 pub mod Digits
+pub mod Powers
 pub mod Tallies
 pub mod Blocks
 pub mod Unique
@@ -7,9 +9,6 @@ pub mod Monotone
 pub mod Size
 pub mod Queries
 pub mod Extend
-pub mod Stores
-pub mod Merge
-pub mod Merging
-pub mod Adapting
 pub mod Digitwise
 pub mod BitQuery
+pub mod Edges

@@ -2,4 +2,3 @@ pub mod Lists
 pub mod Signs
 pub mod Adapted
 pub mod Bits
-pub mod Split

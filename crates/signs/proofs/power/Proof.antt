@@ -1,5 +1,5 @@
 -- `signs::power` meets its contract: the table has the powers. Assumes nothing.
-use Rattle.signs.proofs.Stores.{powers}
+use Rattle.signs.proofs.Powers.{powers}
 use borrow.Author.Needs.{needs}
 use Rattle.signs.proofs.power.Statement.{statement}
 use Rattle.signs.proofs.power.Tie as tie

@@ -10,7 +10,7 @@ use mir.Syntax.{w64}
 use mir.Val.{SFits, toZ, ofZ}
 use mir.Facts.{toZ-ofZ}
 use Rattle.integers.proofs.I64.{fits-abs}
-use Rattle.signs.proofs.Merge.{below-at}
+use Rattle.signs.proofs.Positions.{below-at}
 use Rattle.signs.proofs.BitQuery.{bitQuery, bitQuery-abs, bitQuery-next, bitQuery-is}
 use Rattle.signs.proofs.query.Statement.{statement}
 use Rattle.signs.proofs.query.Tie as tie

@@ -1,0 +1,4 @@
+pub mod Stores
+pub mod Merge
+pub mod Merging
+pub mod Adapting
