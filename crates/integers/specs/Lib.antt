@@ -3,3 +3,4 @@ pub mod Sums
 pub mod Sign
 pub mod Half
 pub mod Range
+pub mod Parts

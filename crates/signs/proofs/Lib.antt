@@ -12,3 +12,6 @@ pub mod Extend
 pub mod Digitwise
 pub mod BitQuery
 pub mod Edges
+pub mod Weights
+pub mod UniqueWhole
+pub mod Orders

@@ -1,5 +1,6 @@
 -- Theorem: the adapted list of a rising list of patterns is rising, its products are below 3^s, and there are as many as patterns.
 -- `adapted-below` of `Blocks` is the second part. Assumes nothing.
+unfoldable pub use Rattle.signs.specs.Lists.{total}
 use mathlib.Core.Path.{_≡_, refl, sym, ap, _∙_, subst}
 use mathlib.Core.Logic.{_≢_, _⊎_, inl, inr}
 use mathlib.Core.Bool.{Bool, true, false, cond}
@@ -17,10 +18,6 @@ use Rattle.signs.proofs.Blocks.{adapted-below}
 use Rattle.signs.proofs.Lists.{times-nil, times-same, times-other, times-one, times-append, times-keep, times-upTo-in, times-upTo-out, lows-holds, shift-holds}
 
 -- ---- sums over the numbers below n
-
-unfoldable pub total : (ℕ → ℕ) → ℕ → ℕ
-total f zero = 0
-total f (suc n) = total f n + f n
 
 total-ext : (f g : ℕ → ℕ) (n : ℕ) → ((q : ℕ) → q < n → f q ≡ g q) → total f n ≡ total g n
 unfolding total

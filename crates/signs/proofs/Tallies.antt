@@ -1,6 +1,5 @@
--- Weighted queries without integers, a device of the proofs. A weight of a pattern is a difference p − n of two natural numbers, given by
--- two functions. `tally s α p n` counts p at the patterns where the sign of α is +, and n where it is −, so the query of the weight p − n is
--- tally s α p n − tally s α n p. It sees only the patterns of its polynomials, and it is additive. Assumes nothing.
+-- Laws of `tally`: it sees only the patterns of its polynomials, and it is additive. Assumes nothing.
+unfoldable pub use Rattle.signs.specs.Tally.{fold, tally}
 use mathlib.Core.Path.{_≡_, refl, sym, ap, _∙_, subst}
 use mathlib.Core.Logic.{_≢_, _⊎_, inl, inr}
 use mathlib.Core.List.{List, [], _∷_, _++_}
@@ -10,16 +9,6 @@ use native.Mathlib.Decide.{decLt}
 use native.Mathlib.Nat.{one-le-pow}
 use lib.Arith.{digits-div, digits-mod}
 use Rattle.signs.proofs.Digits.{top, low}
-
--- the last polynomial, P(i+1), summed out with its sign to the power k: what is lows counts at the pattern q of P1 .. Pi
-unfoldable pub fold : ℕ → ℕ → (ℕ → ℕ) → (ℕ → ℕ) → ℕ → ℕ
-fold i zero p n q = p q + p (q + 3 ^ i) + p (q + 2 * 3 ^ i)
-fold i (suc zero) p n q = p (q + 3 ^ i) + n (q + 2 * 3 ^ i)
-fold i (suc (suc k)) p n q = p (q + 3 ^ i) + p (q + 2 * 3 ^ i)
-
-unfoldable pub tally : ℕ → ℕ → (ℕ → ℕ) → (ℕ → ℕ) → ℕ
-tally zero α p n = p 0
-tally (suc i) α p n = tally i (α % 3 ^ i) (fold i (α / 3 ^ i) p n) (fold i (α / 3 ^ i) n p)
 
 pub tally-at : (i k a : ℕ) (p n : ℕ → ℕ) → a < 3 ^ i → tally (suc i) (a + k * 3 ^ i) p n ≡ tally i a (fold i k p n) (fold i k n p)
 unfolding tally

@@ -2,3 +2,4 @@ pub mod Lists
 pub mod Signs
 pub mod Adapted
 pub mod Bits
+pub mod Tally
