@@ -1,0 +1,10 @@
+pub mod Some
+pub mod Causes
+pub mod Header
+pub mod Polynomial
+pub mod Points
+pub mod Bodies
+pub mod Sound
+pub mod Places
+pub mod Most
+pub mod Edges

@@ -1,0 +1,61 @@
+-- Laws of `some`: that a test holds of a number below n. Assumes nothing.
+use mathlib.Core.Path.{_≡_, refl}
+use mathlib.Core.Bool.{Bool, true, false, _||_}
+use mathlib.Core.Logic.{_⊎_, ⊎-elim}
+use Prim.Native.Nat.{ℕ, zero, suc, _+_, _<_}
+use native.Mathlib.Numerals.{add-one}
+use native.Mathlib.Omega.{arith}
+use Rattle.integers.proofs.Tests.{eq-cases}
+use Rattle.card.specs.Card.{some}
+
+or-true : (a : Bool) → a || true ≡ true
+or-true true = refl
+or-true false = refl
+
+pub or-left : (a b : Bool) → a ≡ true → a || b ≡ true
+or-left a b e = rw e
+
+pub or-right : (a b : Bool) → b ≡ true → a || b ≡ true
+or-right a b e = rw e (or-true a)
+
+pub or-false : (a b : Bool) → a ≡ false → b ≡ false → a || b ≡ false
+or-false a b p q = rw (p, q)
+
+pub left-false : (a b : Bool) → a || b ≡ false → a ≡ false
+left-false true b e = e
+left-false false b e = refl
+
+pub right-false : (a b : Bool) → a || b ≡ false → b ≡ false
+right-false true true e = e
+right-false true false e = refl
+right-false false b e = e
+
+module _ (f : ℕ → Bool) where
+  pub some-none : some f 0 ≡ false
+  unfolding some
+  some-none = refl
+
+  pub some-more : (n : ℕ) → some f n ≡ false → f n ≡ false → some f (n + 1) ≡ false
+  unfolding some
+  some-more n p q = rw (add-one n) (or-false (some f n) (f n) p q)
+
+  pub some-true : (n k : ℕ) → k < n → f k ≡ true → some f n ≡ true
+  unfolding some
+  some-true zero k h e = absurd (omega arith)
+  some-true (suc n) k h e =
+      ⊎-elim (λ w. rw (← w .0, e) (or-true (some f k)))
+      (λ w. rw (some-true n k (omega (arith, w .0)) e))
+      (eq-cases k n)
+
+  pub some-false : (n : ℕ) → some f n ≡ false → (k : ℕ) → k < n → f k ≡ false
+  unfolding some
+  some-false zero e k h = absurd (omega arith)
+  some-false (suc n) e k h =
+      ⊎-elim (λ w. rw (w .0) (right-false (some f n) (f n) e))
+      (λ w. some-false n (left-false (some f n) (f n) e) k (omega (arith, w .0)))
+      (eq-cases k n)
+
+  pub none-below : (n : ℕ) → ((k : ℕ) → k < n → f k ≡ false) → some f n ≡ false
+  unfolding some
+  none-below zero h = refl
+  none-below (suc n) h = or-false (some f n) (f n) (none-below n (λ k l. h k (omega arith))) (h n (omega arith))

@@ -1,0 +1,86 @@
+-- `card::value` meets its contract. Assumes nothing.
+
+use mathlib.Core.Path.{_≡_, sym, ap, subst, _∙_}
+use mathlib.Core.List.{List}
+use Prim.Native.Nat.{ℕ, _≤_}
+use native.Mathlib.Omega.{arith}
+use borrow.Author.Needs.{sfits-of}
+use lib.IntN.{ℤ, natAbs}
+use mir.Syntax.{w8, w64}
+use mir.Val.{SFits, toZ, ofZ}
+use mir.Facts.{toZ-ofZ}
+use Rattle.integers.specs.Sums.{Within}
+use Rattle.integers.proofs.Parts.{int, parts, side}
+use Rattle.layout.specs.Limits.{most-coefficient}
+use Rattle.layout.specs.Format.{offset}
+use Rattle.layout.specs.Body.{Whole}
+use Rattle.layout.specs.Values.{polynomial, evaluate, value}
+use Rattle.layout.proofs.Coefficients.{polynomial-within, evaluate-polynomial}
+use Rattle.card.specs.declared.Evaluated.the-variants as Evaluated
+use Rattle.card.specs.Card.{place}
+use Rattle.card.specs.Answers.{evaluated}
+use Rattle.card.proofs.Places.{held, unless-none, unless-number}
+use borrow.Author.Needs.{needs}
+use Rattle.card.proofs.value.Statement.{statement}
+use Rattle.card.proofs.value.Tie as tie
+
+-- ---- x is passed on as it came
+module _ (x : ℤ) (f : SFits w8 x) where
+  wider : SFits w64 x
+  wider = omega (int, f .sfits)
+
+  same : toZ w64 (ofZ w64 (toZ w8 (ofZ w8 x))) ≡ x
+  same = rw (toZ-ofZ f) (toZ-ofZ wider)
+
+  near : natAbs (toZ w64 (ofZ w64 (toZ w8 (ofZ w8 x)))) ≤ 128
+  near = rw same (omega (int, parts x, side x, f .sfits))
+
+-- ---- the polynomial at position j, which begins at byte `at`
+module _ (c : List ℕ) (j at : ℕ) (h : place c j ≡ 0) (e : at ≡ offset c j) where
+  body-at : Whole c at
+  body-at = subst (Whole c) (sym e) (held c j h .body .small .whole)
+
+  module _ (p : List ℤ) (d : p ≡ polynomial c at) where
+    within : Within most-coefficient p
+    within = rw (d, e) (polynomial-within c (offset c j) (held c j h .body .small))
+
+    its-value : (x : ℤ) → evaluate p x ≡ value c (offset c j) x
+    its-value x = rw (d, e) (evaluate-polynomial c (offset c j) x (held c j h .body .small .whole .low))
+
+place-requires : tie.Need-place-requires
+place-requires c κs = search needs
+
+returns : tie.Need-returns
+unfolding evaluated
+returns c = ap Evaluated.Refused (c .before .place .ensures) ∙ sym (unless-number _ _ _ (λ e. c .if1 .taken (c .before .place .ensures ∙ e)))
+
+good : (c : tie.Else1) → place (c .before .before .before .args .card .now) (c .before .before .before .args .j) ≡ 0
+good c = sym (c .before .place .ensures) ∙ c .if1 .left
+
+offset-requires : tie.Need-offset-requires
+offset-requires c κs = let h = held _ _ (good c) in omega arith
+
+polynomial-requires : tie.Need-polynomial-requires
+polynomial-requires c κs = body-at _ _ _ (good (c .before)) (c .offset .ensures)
+
+cast-evaluate : tie.Need-cast-evaluate
+cast-evaluate c = rw (toZ-ofZ (c .before .before .before .before .before .before .fits .x)) (wider _ (c .before .before .before .before .before .before .fits .x))
+
+evaluate-requires : tie.Need-evaluate-requires
+evaluate-requires c κs = (within _ _ _ (good (c .before .before .before)) (c .before .before .offset .ensures) _ (c .before .polynomial .ensures), near _ (c .before .before .before .before .before .before .fits .x))
+
+returns-2 : tie.Need-returns-2
+unfolding evaluated
+returns-2 c = ap Evaluated.Value (toZ-ofZ (sfits-of (c .evaluate .ok)) ∙ c .evaluate .ensures ∙ ap (evaluate (c .before .before .polynomial .result)) (same _ (c .before .before .before .before .before .before .before .fits .x)) ∙ its-value _ _ _ (good (c .before .before .before .before)) (c .before .before .before .offset .ensures) _ (c .before .before .polynomial .ensures) _) ∙ sym (unless-none _ _ _ (good (c .before .before .before .before)))
+
+pub value-spec : {M : Type 1} → statement M
+value-spec =
+    tie.close
+    (tie.spec
+    place-requires
+    returns
+    offset-requires
+    polynomial-requires
+    cast-evaluate
+    evaluate-requires
+    returns-2)

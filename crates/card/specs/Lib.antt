@@ -1,0 +1,4 @@
+pub mod Numbers
+pub mod Card
+pub mod Sound
+pub mod Answers

@@ -1,0 +1,125 @@
+// Reads the cards of the file that the first argument names, each after its length in two bytes, and writes what each call answers:
+// a line for the card, then one for each position up to the first past the last polynomial (of a refused card, position 0 alone).
+use card::Card;
+use card::Evaluated;
+use card::Stretch;
+use libc::STDOUT_FILENO;
+
+fn put(b: u8) {
+    io::write_all(STDOUT_FILENO, &[b]);
+}
+
+fn print_number(n: u64) {
+    put(b' ');
+    io::print_decimal(STDOUT_FILENO, n);
+}
+
+// The absolute value, also of the least number.
+fn magnitude(v: i64) -> u64 {
+    if v < 0 {
+        return ((0 - (v + 1)) as u64) + 1;
+    }
+    v as u64
+}
+
+fn print_signed(v: i64) {
+    put(b' ');
+    if v < 0 {
+        put(b'-');
+    }
+    io::print_decimal(STDOUT_FILENO, magnitude(v));
+}
+
+fn print_value(card: &[u8], j: usize, x: i8) {
+    match card::value(card, j, x) {
+        Evaluated::Value(v) => print_signed(v),
+        Evaluated::Refused(number) => print_number(number as u64),
+    }
+}
+
+// The bytes of a body as the digits of a number to the base 31, modulo 65,521, so that a wrong stretch shows.
+fn weight(bytes: &[u8]) -> usize {
+    let mut sum = 0;
+    let mut i = 0;
+    while i < bytes.len() {
+        sum = (sum * 31 + layout::wide(bytes[i])) % 65521;
+        i += 1;
+    }
+    sum
+}
+
+fn print_position(card: &[u8], j: usize) {
+    match card::locate(card, j) {
+        Stretch::At { start, len } => {
+            put(b'A');
+            print_number(start as u64);
+            print_number(len as u64);
+        }
+        Stretch::Refused(number) => {
+            put(b'N');
+            print_number(number as u64);
+        }
+    }
+    let bytes = card::body(card, j);
+    print_number(bytes.len() as u64);
+    print_number(weight(bytes) as u64);
+    print_value(card, j, -128);
+    print_value(card, j, -1);
+    print_value(card, j, 100);
+    put(b'\n');
+}
+
+fn print_positions(card: &[u8], s: usize) {
+    let mut j = 0;
+    while j < s {
+        print_position(card, j);
+        j += 1;
+    }
+    print_position(card, s);
+}
+
+fn print_card(card: &[u8]) {
+    match card::read(card) {
+        Card::Sound { s, n } => {
+            put(b'S');
+            print_number(s as u64);
+            print_number(n as u64);
+            put(b'\n');
+            print_positions(card, s);
+        }
+        Card::Refused(number) => {
+            put(b'R');
+            print_number(number as u64);
+            put(b'\n');
+            print_position(card, 0);
+        }
+    }
+}
+
+fn print_cards(cards: &[u8]) {
+    let mut at = 0;
+    while 2 <= cards.len() - at {
+        let len = layout::wide(cards[at]) * 256 + layout::wide(cards[at + 1]);
+        let from = at + 2;
+        if cards.len() - from < len {
+            return;
+        }
+        let to = from + len;
+        print_card(&cards[from..to]);
+        at = to;
+    }
+}
+
+fn main() {
+    let mut path = io::buffer();
+    let length = os::arg(1, &mut path);
+    let fd = os::open_read(&path[..length]);
+    if fd < 0 {
+        os::fail(&path[..length]);
+        return;
+    }
+    let mut cards = io::large_buffer();
+    let n = io::read_full(fd, &mut cards);
+    libc::close(fd);
+    print_cards(&cards[..n]);
+}

@@ -1,0 +1,4 @@
+pub mod Twos
+pub mod Horner
+pub mod Digit
+pub mod Coefficients

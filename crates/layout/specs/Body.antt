@@ -1,0 +1,25 @@
+-- What a sound body of a polynomial is (document 01, "The card"). Assumes nothing: these are definitions.
+--
+--   Whole c at == the body that begins at byte `at` lies on the card c, and its degree is at most 6
+--   Small c at == and its coefficients are from −1,000,000 to 1,000,000
+--   Body c at  == and the top one is not 0 unless the degree is
+use mathlib.Core.Path.{_≡_}
+use mathlib.Core.List.{List}
+use Prim.Native.Nat.{ℕ, _+_, _≤_, _<_}
+use lib.IntN.{pos, natAbs}
+use lib.ListN.{length}
+use Rattle.layout.specs.Limits.{most-degree, most-coefficient}
+use Rattle.layout.specs.Format.{degree, size, coefficient}
+
+pub record Whole (c : List ℕ) (at : ℕ) : Type 0 where
+  pub begins : at < length c
+  pub low : degree c at ≤ most-degree
+  pub ends : at + size c at ≤ length c
+
+pub record Small (c : List ℕ) (at : ℕ) : Type 0 where
+  pub whole : Whole c at
+  pub small : (i : ℕ) → i ≤ degree c at → natAbs (coefficient c at i) ≤ most-coefficient
+
+pub record Body (c : List ℕ) (at : ℕ) : Type 0 where
+  pub small : Small c at
+  pub top : coefficient c at (degree c at) ≡ pos 0 → degree c at ≡ 0
