@@ -144,6 +144,12 @@ pub part-later : (f : ℤ → ℕ) (σ : ℕ) (L : List ℕ) (w : ℤ) (c : List
 unfolding part scaled
 part-later f σ L w c q h = rw (point-isnt σ q h) (omega arith)
 
+-- no numbers, no weight
+pub part-empty : (f : ℤ → ℕ) (L : List ℕ) (q : ℕ) → part f L [] q ≡ 0
+unfolding part
+part-empty f [] q = refl
+part-empty f (σ ∷ L) q = refl
+
 -- nothing outside the list
 pub part-out : (f : ℤ → ℕ) (L : List ℕ) (c : List ℤ) (q : ℕ) → times q L ≡ 0 → part f L c q ≡ 0
 part-out f [] c q e = unfold part in refl

@@ -1,0 +1,113 @@
+-- `remains::rests` meets its contract. Assumes nothing.
+use native.Mathlib.Omega.{arith}
+use Prim.Native.Nat.{ℕ, suc, _+_, _-_, _*_, _^_, _≤_, _<_}
+use mathlib.Core.Path.{_≡_, refl, sym, ap, _∙_}
+use borrow.Author.Needs.{needs}
+use lib.IntN.{ℤ, pos, natAbs, _+ℤ_, _-ℤ_}
+use lib.ListN.{length, getD, set, length-set}
+use mir.Syntax.{w64}
+use mir.Val.{toZ, ofZ}
+use Rattle.signs.proofs.Positions.{below-at}
+use Rattle.remains.specs.Remains.{bitSum, digitSum, Rests}
+use Rattle.moments.proofs.Laws.{back, each-more}
+use Rattle.remains.proofs.rests.Statement.{statement}
+use Rattle.remains.proofs.rests.Tie as tie
+use Rattle.remains.proofs.rests.Reads as reads
+use Rattle.remains.proofs.rests.Lts as lts
+use Rattle.moments.proofs.minus.Reads as minus-reads
+use Rattle.remains.proofs.query.Reads as query-reads
+use Rattle.signs.proofs.digits_of.Reads as digits-of-reads
+
+abbrev Inv-loop : tie.InvT-loop
+Inv-loop x a i ones twos v r₀ k₀ r k =
+    (k ≤ length a) × (length r ≡ length r₀) × ((h : ℕ) → h < k → getD r h (pos 0) ≡ getD x h (pos 0) -ℤ digitSum i (getD a h 0) ones twos v)
+
+abbrev μ-loop : tie.MeasureT-loop
+μ-loop x a i ones twos v r₀ k₀ r k = length a - k
+
+loop-holds : tie.Need-loop-holds Inv-loop μ-loop
+loop-holds c = (omega arith, refl, λ h q. absurd (omega arith))
+
+mul-y : tie.Need-mul-y Inv-loop μ-loop
+mul-y c = omega arith
+
+shared-slice-copy-out-y : tie.Need-shared-slice-copy-out-y Inv-loop μ-loop
+shared-slice-copy-out-y c = omega arith
+
+mul-digits-of : tie.Need-mul-digits-of Inv-loop μ-loop
+mul-digits-of c = search needs
+
+shared-slice-read-digits-of : tie.Need-shared-slice-read-digits-of Inv-loop μ-loop
+shared-slice-read-digits-of c = search needs
+
+digits-of-requires : tie.Need-digits-of-requires Inv-loop μ-loop
+digits-of-requires c κs =
+    let at = c .before .before .before in
+    let st = at .before .before .before .before in
+    (st .pre .0 .0, below-at (3 ^ (st .args .i)) (st .args .a .now) (st .pre .0 .1) (at .loop .k) (omega arith))
+
+query-requires : tie.Need-query-requires Inv-loop μ-loop
+query-requires c κs = c .before .before .before .before .before .before .before .before .pre .1
+
+minus-requires : tie.Need-minus-requires Inv-loop μ-loop
+minus-requires c κs =
+    let at = c .before .before .before .before .before in
+    let st = at .before .before .before .before in
+    rw (back (getD (st .args .x .now) (at .loop .k) (pos 0)) (search needs), back (c .query .result) (search needs))
+    (omega (arith, st .pre .0 .4 .at (at .loop .k), c .query .ensures .1))
+
+mul-m : tie.Need-mul-m Inv-loop μ-loop
+mul-m c = search needs
+
+slice-set-from-m : tie.Need-slice-set-from-m Inv-loop μ-loop
+slice-set-from-m c = omega arith
+
+add-k : tie.Need-add-k Inv-loop μ-loop
+add-k c = search needs
+
+loop-less : tie.Need-loop-less Inv-loop μ-loop
+loop-less c = search needs
+
+loop-again : tie.Need-loop-again Inv-loop μ-loop
+loop-again c =
+    let at = c .before .before .before .before .before .before in
+    let st = at .before .before .before .before in
+    let a = st .args in
+    let q = c .before .query in
+    let d = c .before .before .digits-of in
+    let t = c .before .before .before .before .before .loop-test .taken in (
+      omega (arith, t),
+      length-set (at .loop .r) (at .loop .k) _ ∙ at .loop .inv .1,
+      each-more (λ h z. z ≡ getD (a .x .now) h (pos 0) -ℤ digitSum (a .i) (getD (a .a .now) h 0) (a .ones .now) (a .twos .now) (a .v .now)) (at .loop .r) (at .loop .k) _ (omega (arith, t, at .loop .inv .1, st .pre .0 .3))
+          (back (c .minus .result) (search needs) ∙ c .minus .ensures
+          ∙ rw (back (getD (a .x .now) (at .loop .k) (pos 0)) (search needs), back (q .result) (search needs), q .ensures .0, d .ensures .0, d .ensures .1) refl)
+          (at .loop .inv .2),
+    )
+
+same-length : tie.Need-same-length Inv-loop μ-loop
+same-length c = c .before .loop .inv .1
+
+returns : tie.Need-returns Inv-loop μ-loop
+returns c = record { at = λ k h. c .before .loop .inv .2 k (omega arith) }
+
+pub rests-spec : {M : Type 1} → statement M
+rests-spec =
+    tie.close
+    (tie.spec
+    Inv-loop
+    μ-loop
+    loop-holds
+    mul-y
+    shared-slice-copy-out-y
+    mul-digits-of
+    shared-slice-read-digits-of
+    digits-of-requires
+    query-requires
+    minus-requires
+    mul-m
+    slice-set-from-m
+    add-k
+    loop-less
+    loop-again
+    same-length
+    returns)

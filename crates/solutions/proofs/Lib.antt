@@ -1,0 +1,6 @@
+pub mod Lookup
+pub mod Solve
+pub mod SolverRight
+pub mod Bounds
+pub mod Edges
+pub mod Posing
