@@ -1,0 +1,86 @@
+-- DEMAND 3 of the code: the four calls are known by their contracts alone (`Learnt`: what a call promises of its arguments, its result and what it
+-- leaves in lent memory), so that a weaker promise of any of them breaks the theorem. Assumes nothing.
+use mathlib.Core.Path.{_≡_, ap, ap₂, _∙_}
+use mathlib.Core.List.{List, _∷_}
+use Prim.Native.Nat.{ℕ, _≤_}
+use borrow.Author.Tests.{le-leb}
+use lib.IntN.{ℤ}
+use contract.Lifetimes.{Lfts}
+use denote.Ref.{RefT, now}
+use Rattle.rounds.specs.Rows.{maxPolynomials}
+use Rattle.rounds.specs.RoundEnd.{roundRows}
+use Rattle.determination.specs.declared.Run.{Run}
+use Rattle.determination.specs.declared.Answered.{Answered}
+use Rattle.determination.specs.declared.Fetched.{Fetched}
+use Rattle.determination.specs.declared.Copied as code
+use Rattle.determination.specs.Run.{State, Step, Fetch, Copy, ask, running, startOf, answerOf, fetchOf, copyOf}
+use Rattle.determination.specs.Record.{stateOf, stepOf, fetchedOf, copiedOf, startedOf}
+use Rattle.determination.specs.Demand.{Call, Event, phaseOf, taken, given, Claim}
+use Rattle.determination.proofs.Chains.{Keeps, FromStart, demand3-chain}
+use Rattle.determination.proofs.start.Reads as start
+use Rattle.determination.proofs.answer.Reads as answer
+use Rattle.determination.proofs.fetch_row.Reads as fetch
+use Rattle.determination.proofs.copy_rows.Reads as copy
+use Rattle.determination.proofs.asked.Reads as asked
+
+-- a call of each kind, by its contract: what it got, what it gave, what it left
+pub record Started (s : ℕ) (c : Run) (x : Step) : Type 0 where
+  pub result : Answered
+  pub kept : start.Learnt tt (s, tt) result (s, tt)
+  pub left : c ≡ result .run
+  pub gave : x ≡ stepOf (result .step)
+
+pub record Took (c : Run) (z : ℤ) (c′ : Run) (x : Step) : Type 0 where
+  pub result : Answered
+  pub kept : answer.Learnt tt (c, (z, tt)) result (c, (z, tt))
+  pub left : c′ ≡ result .run
+  pub gave : x ≡ stepOf (result .step)
+
+pub record Fetches (c : Run) (p : ℕ) (x : Fetch) : Type 0 where
+  pub result : Fetched
+  pub kept : fetch.Learnt tt (c, (p, tt)) result (c, (p, tt))
+  pub gave : x ≡ fetchedOf result
+
+keeps-starts : (s : ℕ) (c : Run) (x : Step) → 1 ≤ s → s ≤ maxPolynomials → Started s c x → (stateOf c ≡ startOf s) × (x ≡ ask 0)
+unfolding startedOf
+keeps-starts s c x h m u =
+    let e : _≡_ {A = State × Step} (stateOf (u .result .run), stepOf (u .result .step)) (startOf s, ask 0) = (rw (le-leb 1 s h, le-leb s maxPolynomials m) at (u .kept)) in
+    (ap stateOf (u .left) ∙ ap (λ (p : State × Step). p .0) e, u .gave ∙ ap (λ (p : State × Step). p .1) e)
+
+keeps-answers : (c : Run) (z : ℤ) (c′ : Run) (x : Step) → Took c z c′ x
+    → (stateOf c′ ≡ answerOf roundRows (stateOf c) z .0) × (x ≡ answerOf roundRows (stateOf c) z .1)
+keeps-answers c z c′ x u =
+    (ap stateOf (u .left) ∙ ap (λ (p : State × Step). p .0) (u .kept .0), u .gave ∙ ap (λ (p : State × Step). p .1) (u .kept .0))
+
+keeps-fetches : (c : Run) (p : ℕ) (x : Fetch) → Fetches c p x → x ≡ fetchOf (stateOf c) p
+keeps-fetches c p x u = u .gave ∙ u .kept
+
+-- the two slices lent, as they were and as they are left
+pub record Copies (c : Run) (a b : List ℕ) (x : Copy) : Type 0 where
+  pub lifetimes : Lfts 2
+  pub patterns : RefT (List ℕ)
+  pub counts : RefT (List ℕ)
+  pub patterns′ : RefT (List ℕ)
+  pub counts′ : RefT (List ℕ)
+  pub result : code.Copied
+  pub kept : copy.Learnt lifetimes (c, (patterns, (counts, tt))) result (c, (patterns′, (counts′, tt)))
+  pub lent-patterns : now patterns ≡ a
+  pub lent-counts : now counts ≡ b
+  pub gave : x ≡ record { result = copiedOf result; patterns-left = now patterns′; counts-left = now counts′ }
+
+keeps-copies : (c : Run) (a b : List ℕ) (x : Copy) → Copies c a b x → x ≡ copyOf (stateOf c) a b
+keeps-copies c a b x u = u .gave ∙ u .kept ∙ ap₂ (λ (p q : List ℕ). copyOf (stateOf c) p q) (u .lent-patterns) (u .lent-counts)
+
+-- the contracts keep the rules
+kept : Keeps Run stateOf Started Took Fetches Copies
+kept = record { starts = keeps-starts; answers = keeps-answers; fetches = keeps-fetches; copies = keeps-copies }
+
+-- a list of answers, row fetches and row copies after a start with s from 1 to 8, in which each call gets the record as the one before left it
+abbrev pub Calls : ℕ → List Call → List Event → Run → Type 0
+Calls s cs t d = FromStart Run stateOf Started Took Fetches Copies s cs t d
+
+-- DEMAND 3: after every such list, with the question total that the run reports
+pub demand3-code : (s : ℕ) → 1 ≤ s → s ≤ maxPolynomials → (cs : List Call) (t : List Event) (d : Run) → Calls s cs t d
+    → (total : ℕ) → asked.Learnt tt (d, tt) total (d, tt)
+    → Claim s (0 ∷ given running t) (taken running t) (phaseOf running t) total t
+demand3-code s h m cs t d u total e = rw e (demand3-chain Run stateOf Started Took Fetches Copies kept s h m u)

@@ -1,0 +1,161 @@
+-- The record as the code writes it stands for what the rules give: a round goes on, ends, and the next one begins. Assumes nothing.
+use mathlib.Core.Path.{_≡_, refl, sym, ap, _∙_, subst}
+use mathlib.Core.Bool.{true, false}
+use mathlib.Core.Option.{Option, some, none}
+use mathlib.Core.List.{List, [], _∷_, _++_}
+use Prim.Native.Nat.{ℕ, suc, _+_, _*_, _-_, _^_, _≤_, _<_}
+use native.Mathlib.Numerals.{add-one}
+use native.Mathlib.Decide.{decLe}
+use native.Mathlib.Omega.{arith}
+use lib.IntN.{ℤ}
+use lib.ListN.{length, take, set, length-append, length-take}
+use lib.Seq.{length-take-le, take-suc-set}
+use Rattle.signs.specs.Lists.{Below}
+use Rattle.signs.specs.Adapted.{adapted}
+use Rattle.signs.proofs.Blocks.{adapted-below}
+use Rattle.rounds.specs.Rows.{Row, patterns, counts, rowsWith}
+use Rattle.rounds.specs.RoundEnd.{roundRows, Left}
+use Rattle.rounds.specs.declared.Next.{Next}
+use Rattle.rounds.proofs.RowLaws.{length-patterns}
+use Rattle.determination.specs.Run.{State, Step, ask, refused, late, productAt, ended, goOn, answerOf}
+use Rattle.determination.specs.Record.{isSound, runningState, stateOf, heldRows}
+use Rattle.determination.specs.declared.Run.{Run}
+use Rattle.determination.specs.declared.Rows.{Rows}
+use Rattle.determination.specs.declared.Phase.the-variants.{Running, Done}
+use Rattle.determination.proofs.Held.{with-patterns, with-own, below-all}
+use Rattle.determination.proofs.Lengths.{Lengths}
+use Rattle.determination.proofs.Records.{sound-later, sound-below, sound-to, limits-to, running-is, done-is, not-done-is}
+use Rattle.determination.proofs.Steps.{answer-finished, answer-closed}
+use Rattle.rounds.specs.declared.Next.the-variants as next
+
+-- ---- the round goes on
+
+-- the answers with one more, as the code stores it
+pub stored : (l : List ℤ) (k : ℕ) (z : ℤ) → k < length l → take (k + 1) (set l k z) ≡ take k l ++ (z ∷ [])
+stored l k z h = rw (add-one k) (take-suc-set l k z h)
+
+pub stored-length : (l : List ℤ) (k : ℕ) (z : ℤ) → k ≤ length l → length (take k l ++ (z ∷ [])) ≡ k + 1
+stored-length l k z h = omega (arith, length-append (take k l) (z ∷ []), length-take-le k l h)
+
+abbrev wentOn : Run → ℤ → Run
+wentOn r a =
+    record {
+      polynomials = r .polynomials;
+      asked = r .asked + 1;
+      phase = Running;
+      round = r .round;
+      points = r .points;
+      rows = r .rows;
+      patterns = r .patterns;
+      counts = r .counts;
+      products = r .products;
+      answered = r .answered + 1;
+      answers = set (r .answers) (r .answered) a;
+    }
+
+module _ (r : Run) (a : ℤ) (n : Lengths r) (e : isSound r ≡ true) (later : 0 < r .round) (more : r .answered + 1 < 2 * r .rows) where
+  went-sound : isSound (wentOn r a) ≡ true
+  went-sound =
+      let k = sound-later r e later in
+      sound-to (wentOn r a) later
+      (limits-to (r .polynomials) (r .asked + 1) (r .round) (r .points) (r .rows) (r .answered + 1) later (k .rounds) (k .most) (k .few-points) (k .few-rows) more (omega arith))
+      (sound-below r e later)
+
+  pub went-on : (p : ℕ) → p ≡ productAt (r .round - 1) (take (r .rows) (r .products)) (r .answered + 1)
+      → _≡_ {A = State × Step} (stateOf (wentOn r a), ask p)
+      (goOn roundRows (runningState r) (r .round - 1) (take (r .answered) (r .answers) ++ (a ∷ [])) true)
+  went-on p q =
+      let k = sound-later r e later in
+      let h : r .answered < length (r .answers) = omega arith in
+      let e₀ = running-is (wentOn r a) refl went-sound in
+      let e₁ = add-one (r .asked) in
+      let e₂ : r .round ≡ suc (r .round - 1) = omega arith in
+      let e₃ = stored (r .answers) (r .answered) a h in
+      let e₄ = stored-length (r .answers) (r .answered) a (omega arith) in
+      rw e₀ (cc)
+
+-- ---- the next round begins
+
+abbrev begunRun : Run → ℕ → ℕ → Rows → List ℕ → Run
+begunRun r i points h products =
+    record {
+      polynomials = r .polynomials;
+      asked = r .asked + 1;
+      phase = Running;
+      round = i + 1;
+      points = points;
+      rows = h .number;
+      patterns = h .patterns;
+      counts = h .counts;
+      products = products;
+      answered = 0;
+      answers = r .answers;
+    }
+
+module _ (r : Run) (i points : ℕ) (h : Rows) (A : List ℕ) (P : length (h .patterns) ≡ 64) (C : length (h .counts) ≡ 64) (before : i < r .polynomials)
+    (most : r .polynomials ≤ 8) (few-points : points ≤ 64) (few-asked : r .asked < 128 * suc i) (some-rows : 0 < h .number) (few-rows : h .number ≤ 64)
+    (list : take (h .number) A ≡ adapted i (take (h .number) (h .patterns))) where
+  pub list-below : Below (3 ^ i) (take (h .number) A)
+  list-below = rw list (below-all (3 ^ i) (adapted i (take (h .number) (h .patterns))) (λ α g. adapted-below i α (take (h .number) (h .patterns)) g))
+
+  begun-sound : isSound (begunRun r i points h A) ≡ true
+  begun-sound =
+      let e : i + 1 - 1 ≡ i = omega arith in
+      sound-to (begunRun r i points h A) (omega arith)
+      (limits-to (r .polynomials) (r .asked + 1) (i + 1) points (h .number) 0 (omega arith) (omega arith) most few-points few-rows (omega arith) (omega arith))
+      (subst (λ (j : ℕ). Below (3 ^ j) (take (h .number) A)) (sym e) list-below)
+
+  pub begun : (p : ℕ) → p ≡ productAt i (take (h .number) A) 0
+      → _≡_ {A = State × Step} (stateOf (begunRun r i points h A), ask p) (ended roundRows (runningState r) i points (heldRows h) false)
+  begun p q =
+      let e₀ = running-is (begunRun r i points h A) refl begun-sound in
+      let e₁ = add-one (r .asked) in
+      let e₂ = add-one i in
+      let l₁ = length-take-le (h .number) (h .patterns) (omega arith) in
+      let l₂ = length-take-le (h .number) (h .counts) (omega arith) in
+      let e₃ = with-patterns (take (h .number) (h .patterns)) (take (h .number) (h .counts)) (l₁ ∙ sym l₂) in
+      let e₄ : take (h .number) A ≡ adapted i (patterns (heldRows h)) = cc in
+      rw e₀ (cc)
+
+-- ---- the end of a round, as the call left it
+
+pub left-none : (o : Option (List Row)) (x : Next) (P C : List ℕ) → Left o x P C → x ≡ next.None → o ≡ none
+left-none none x P C l e = refl
+left-none (some R) x P C l e = let z : _≡_ {A = ℕ} 0 1 = cc (l .0) in absurd (omega arith)
+
+pub record Some (o : Option (List Row)) (n : ℕ) (P C : List ℕ) : Type 0 where
+  pub rows : List Row
+  pub is : o ≡ some rows
+  pub number : length rows ≡ n
+  pub its-patterns : take n P ≡ patterns rows
+  pub its-counts : take n C ≡ counts rows
+
+pub left-some : (o : Option (List Row)) (x : Next) (n : ℕ) (P C : List ℕ) → Left o x P C → x ≡ next.Rows n → Some o n P C
+left-some none x n P C l e = let z : _≡_ {A = ℕ} 0 1 = cc l in absurd (omega arith)
+left-some (some R) x n P C l e =
+    let k : length R ≡ n = cc (l .0) in
+    record {
+      rows = R;
+      is = refl;
+      number = k;
+      its-patterns = subst (λ (m : ℕ). take m P ≡ patterns R) k (l .1);
+      its-counts = subst (λ (m : ℕ). take m C ≡ counts R) k (l .2);
+    }
+
+module _ (o : Option (List Row)) (n : ℕ) (P C : List ℕ) (s : Some o n P C) where
+  pub some-few : length P ≡ 64 → n ≤ 64
+  some-few e = omega (arith, s .number, length-patterns (s .rows), ap length (s .its-patterns), length-take n P)
+
+  pub some-held : o ≡ some (rowsWith (take n P) (take n C))
+  some-held =
+      let e : rowsWith (take n P) (take n C) ≡ s .rows = rw (s .its-patterns, s .its-counts) (with-own (s .rows)) in
+      s .is ∙ ap some (sym e)
+
+-- ---- an answer after done
+
+pub late-done : (N : ℕ → List Row → List ℤ → Option (List Row)) (r : Run) (a : ℤ) → r .phase ≡ Done → answerOf N (stateOf r) a ≡ (stateOf r, refused late)
+late-done N r a f = go (decLe (r .rows) 64)
+  where
+    go : Dec (r .rows ≤ 64) → answerOf N (stateOf r) a ≡ (stateOf r, refused late)
+    go (yes h) = answer-finished N (stateOf r) a (ap (λ (s : State). s .phase) (done-is r f h))
+    go (no h) = answer-closed N (stateOf r) a (ap (λ (s : State). s .phase) (not-done-is r f (omega arith)))

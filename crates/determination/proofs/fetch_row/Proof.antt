@@ -1,0 +1,63 @@
+-- `determination::fetch_row` meets its contract. Assumes nothing.
+use mathlib.Core.Path.{_≡_, sym, _∙_}
+use mathlib.Core.Bool.{true}
+use Prim.Native.Nat.{_<_}
+use native.Mathlib.Omega.{arith}
+use borrow.Author.Tests.{not-true, not-false}
+use borrow.Author.Needs.{needs}
+use Rattle.determination.specs.Record.{isDone}
+use Rattle.determination.proofs.Lengths.{lengths}
+use Rattle.determination.proofs.Records.{done-phase}
+use Rattle.determination.proofs.Serves.{fetch-late, fetch-past, fetch-at}
+use Rattle.determination.proofs.fetch_row.Statement.{statement}
+use Rattle.determination.proofs.fetch_row.Tie as tie
+
+-- the run is done
+is-done : (c : tie.Else1) → isDone (c .before .before .args .run) ≡ true
+is-done c = sym (c .before .done .ensures) ∙ not-false (c .before .done .result) (c .if1 .left)
+
+few : (c : tie.After-counts) → c .before .before .before .before .before .args .p < 64
+few c = omega (arith, done-phase (c .before .before .before .before .before .args .run) (is-done (c .before .before .before)) .1, c .before .before .if2 .left)
+
+done-requires : tie.Need-done-requires
+done-requires c κs = search needs
+
+returns : tie.Need-returns
+returns c =
+    let a = c .before .before .args in
+    fetch-late (a .run) (a .p) (sym (c .before .done .ensures) ∙ not-true (c .before .done .result) (c .if1 .taken))
+
+returns-2 : tie.Need-returns-2
+returns-2 c =
+    let st = c .before .before .before in
+    fetch-past (st .args .run) (is-done (c .before)) (lengths (st .args .run) (st .good .0) .patterns) (lengths (st .args .run) (st .good .0) .counts) (st .args .p) (c .if2 .taken)
+
+mul-t9 : tie.Need-mul-t9
+mul-t9 c = omega (arith, few c)
+
+array-read-t12 : tie.Need-array-read-t12
+array-read-t12 c = omega (arith, few c)
+
+mul-t14 : tie.Need-mul-t14
+mul-t14 c = omega (arith, few c)
+
+array-read-t17 : tie.Need-array-read-t17
+array-read-t17 c = omega (arith, few c)
+
+returns-3 : tie.Need-returns-3
+returns-3 c =
+    let st = c .before .before .before .before .before in
+    fetch-at (st .args .run) (is-done (c .before .before .before)) (lengths (st .args .run) (st .good .0) .patterns) (lengths (st .args .run) (st .good .0) .counts) (st .args .p) (c .before .before .if2 .left)
+
+pub fetch-row-spec : {M : Type 1} → statement M
+fetch-row-spec =
+    tie.close
+    (tie.spec
+    done-requires
+    returns
+    returns-2
+    mul-t9
+    array-read-t12
+    mul-t14
+    array-read-t17
+    returns-3)

@@ -1,0 +1,36 @@
+-- `determination::next_round` meets its contract. Assumes nothing.
+use mathlib.Core.Path.{_≡_}
+use Prim.Native.Nat.{_-_, suc}
+use native.Mathlib.Omega.{arith}
+use borrow.Author.Tests.{eq-eqb, ne-eqb}
+use Rattle.determination.proofs.Records.{sound-later}
+use Rattle.determination.proofs.next_round.Statement.{statement}
+use Rattle.determination.proofs.next_round.Tie as tie
+
+finish-requires : tie.Need-finish-requires
+finish-requires c κs =
+    let st = c .before .before in
+    let k = sound-later (st .args .run) (st .pre .0 .0) (st .pre .0 .1) in
+    omega arith
+
+returns : tie.Need-returns
+returns c =
+    let st = c .before .before .before in
+    let e : suc (st .args .run .round - 1) ≡ st .args .run .round = omega arith in
+    rw (e, eq-eqb (st .args .run .round) (st .args .run .polynomials) (c .before .if1 .taken)) (c .finish .ensures)
+
+begin-requires : tie.Need-begin-requires
+begin-requires c κs =
+    let st = c .before .before in
+    let k = sound-later (st .args .run) (st .pre .0 .0) (st .pre .0 .1) in
+    let d = c .if1 .left in
+    ((omega arith, k .most, k .few-points, omega arith), ((st .pre .0 .2, st .pre .0 .3), st .pre .1))
+
+returns-2 : tie.Need-returns-2
+returns-2 c =
+    let st = c .before .before .before in
+    let e : suc (st .args .run .round - 1) ≡ st .args .run .round = omega arith in
+    rw (e, ne-eqb (st .args .run .round) (st .args .run .polynomials) (c .before .if1 .left)) (c .begin .ensures)
+
+pub next-round-spec : {M : Type 1} → statement M
+next-round-spec = tie.close (tie.spec finish-requires returns begin-requires returns-2)

@@ -1,0 +1,166 @@
+-- The rules of a run (document 01, "The run"): what its record holds, and what the start, an answer, a row fetch and a copy of all rows give.
+-- How a round's rows are found is a parameter N, so that demand 3 rests on `RightRows` of it alone. Assumes nothing: these are definitions.
+--
+--   late, bad-first, bad-later, no-counts, past-last, too-short == the refusal numbers 7, 8, 9, 10, 14, 15
+--   Step         == what an answer gives: "the next product to ask, done, or closed with a refusal number"; 7 after done or closed
+--   Fetch        == what a row fetch gives: a row, or a refusal number
+--   Copy         == what a copy of all rows gives: how many rows, or a refusal number; and the two lent slices as they are left
+--   State        == the run record
+--   startOf s    == the record of a run for s polynomials before the first answer
+--   productAt i A k == the k-th product of round i + 1, A being the adapted list of the rows before it
+--   answerOf N r z  == the record after the answer z, and the step
+--   fetchOf r p     == the row at position p
+--   copyOf r a b    == all rows copied to the slices a (patterns) and b (counts)
+use mathlib.Core.Bool.{Bool, true, false, cond}
+use mathlib.Core.Option.{Option, some, none}
+use mathlib.Core.List.{List, [], _∷_, _++_, map}
+use Prim.Native.Nat.{ℕ, zero, suc, _+_, _*_, _-_, _^_}
+use lib.Dec.{eqb, leb, ltb}
+use lib.IntN.{ℤ, pos, negsuc, natAbs}
+use lib.ListN.{length, getD, drop}
+use Rattle.rounds.specs.Rows.{maxPoints, Row, patterns, rowIf}
+use Rattle.signs.specs.Adapted.{adapted}
+
+-- ---- what a call gives
+
+abbrev pub late : ℕ
+late = 7
+
+abbrev pub bad-first : ℕ
+bad-first = 8
+
+abbrev pub bad-later : ℕ
+bad-later = 9
+
+abbrev pub no-counts : ℕ
+no-counts = 10
+
+abbrev pub past-last : ℕ
+past-last = 14
+
+abbrev pub too-short : ℕ
+too-short = 15
+
+pub data Step : Type 0 where
+  ask : ℕ → Step
+  done : Step
+  refused : ℕ → Step
+
+pub data Fetch : Type 0 where
+  row : Row → Fetch
+  no-row : ℕ → Fetch
+
+pub data Copied : Type 0 where
+  copied : ℕ → Copied
+  not-copied : ℕ → Copied
+
+pub record Copy : Type 0 where
+  pub result : Copied
+  pub patterns-left : List ℕ
+  pub counts-left : List ℕ
+
+-- ---- the record
+
+pub data Phase : Type 0 where
+  running finished closed : Phase
+
+pub record State : Type 0 where
+  pub polynomials : ℕ
+  pub total : ℕ  -- questions asked
+  pub phase : Phase
+  pub round : ℕ  -- the round whose products are being asked
+  pub n : ℕ  -- the first answer
+  pub rows : List Row  -- those of the rounds that have ended
+  pub products : List ℕ  -- their adapted list, while the run goes on
+  pub answers : List ℤ  -- those of this round so far
+
+abbrev pub startOf : ℕ → State
+startOf s = record { polynomials = s; total = 0; phase = running; round = 0; n = 0; rows = []; products = []; answers = [] }
+
+-- ---- an answer
+
+-- the k-th product of round i + 1, from 0, where A is the rows' adapted list: "every a in A with 3^i added, in order, then every a with 2 × 3^i added"
+unfoldable pub productAt : ℕ → List ℕ → ℕ → ℕ
+productAt i A k = cond (ltb k (length A)) (getD A k 0 + 3 ^ i) (getD A (k - length A) 0 + 2 * 3 ^ i)
+
+module _ (N : ℕ → List Row → List ℤ → Option (List Row)) where
+  -- the record closed, with one more question and no rows
+  abbrev pub close : State → ℕ → State × Step
+  close r k = (
+    record { polynomials = r .polynomials; total = suc (r .total); phase = closed; round = r .round; n = r .n; rows = []; products = []; answers = [] },
+    refused k,
+  )
+
+  -- round i has ended with rows R, the first answer being n: the run is done, or the next round begins
+  abbrev pub ended : State → ℕ → ℕ → List Row → Bool → State × Step
+  ended r i n R true =
+      (record { polynomials = r .polynomials; total = suc (r .total); phase = finished; round = i; n = n; rows = R; products = []; answers = [] }, done)
+  ended r i n R false = (
+    record { polynomials = r .polynomials; total = suc (r .total); phase = running; round = suc i; n = n; rows = R; products = adapted i (patterns R); answers = [] },
+    ask (productAt i (adapted i (patterns R)) 0),
+  )
+
+  abbrev pub endRound : State → ℕ → Option (List Row) → State × Step
+  endRound r i none = close r no-counts
+  endRound r i (some R) = ended r (suc i) (r .n) R (eqb (suc i) (r .polynomials))
+
+  -- round i + 1 has the answers ws so far: it goes on, or it ends
+  abbrev pub goOn : State → ℕ → List ℤ → Bool → State × Step
+  goOn r i ws true = (
+    record { polynomials = r .polynomials; total = suc (r .total); phase = running; round = suc i; n = r .n; rows = r .rows; products = r .products; answers = ws },
+    ask (productAt i (r .products) (length ws)),
+  )
+  goOn r i ws false = endRound r i (N i (r .rows) ws)
+
+  -- the answer of round 0, and one of round i + 1
+  abbrev pub first : State → ℤ → State × Step
+  first r (pos n) = cond (leb n maxPoints) (ended r 0 n (rowIf 0 n) (eqb n 0)) (close r bad-first)
+  first r (negsuc n) = close r bad-first
+
+  abbrev pub later : State → ℕ → ℤ → State × Step
+  later r i z =
+      cond (leb (natAbs z) (r .n))
+      (goOn r i (r .answers ++ (z ∷ [])) (ltb (length (r .answers ++ (z ∷ []))) (2 * length (r .products))))
+      (close r bad-later)
+
+  abbrev pub inRound : State → ℕ → ℤ → State × Step
+  inRound r zero z = first r z
+  inRound r (suc i) z = later r i z
+
+  abbrev pub inPhase : State → Phase → ℤ → State × Step
+  inPhase r running z = inRound r (r .round) z
+  inPhase r finished z = (r, refused late)
+  inPhase r closed z = (r, refused late)
+
+  unfoldable pub answerOf : State → ℤ → State × Step
+  answerOf r z = inPhase r (r .phase) z
+
+-- ---- rows
+
+unfoldable pub fetchRule : Phase → List Row → ℕ → Fetch
+fetchRule running R p = no-row late
+fetchRule finished R p = cond (ltb p (length R)) (row (getD R p (record { pattern = 0; count = 0 }))) (no-row past-last)
+fetchRule closed R p = no-row late
+
+unfoldable pub fetchOf : State → ℕ → Fetch
+fetchOf r p = fetchRule (r .phase) (r .rows) p
+
+abbrev pub kept : ℕ → List ℕ → List ℕ → Copy
+kept k a b = record { result = not-copied k; patterns-left = a; counts-left = b }
+
+unfoldable pub copyRule : Phase → List Row → List ℕ → List ℕ → Copy
+copyRule running R a b = kept late a b
+copyRule finished R a b =
+    cond (leb (length R) (length a))
+    (cond (leb (length R) (length b))
+    (record {
+      result = copied (length R);
+      patterns-left = map (λ r. r .pattern) R ++ drop (length R) a;
+      counts-left = map (λ r. r .count) R ++ drop (length R) b;
+    })
+    (kept too-short a b))
+    (kept too-short a b)
+copyRule closed R a b = kept late a b
+
+unfoldable pub copyOf : State → List ℕ → List ℕ → Copy
+copyOf r a b = copyRule (r .phase) (r .rows) a b

@@ -1,0 +1,12 @@
+pub mod RowLaws
+pub mod Restrict
+pub mod Answers
+pub mod Rounds
+pub mod Questions
+pub mod Realized
+pub mod Moments
+pub mod RoundEnds
+pub mod RoundEdges
+pub mod FairLaws
+pub mod MomentLaws
+pub mod StepLaws

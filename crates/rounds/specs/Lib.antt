@@ -1,0 +1,6 @@
+pub mod Rows
+pub mod Rounds
+pub mod NextRows
+pub mod Moments
+pub mod RoundEnd
+pub mod Steps
