@@ -1,6 +1,7 @@
 -- The run record of the code, and what it stands for in the rules of `Run`. Assumes nothing: these are definitions.
 --
---   phaseOf, stepOf, fetchedOf, copiedOf == the code's answers in the rules' words, with document 01's numbers
+--   stepOf, fetchedOf, copiedOf == what the code's calls give, in the rules' words, with document 01's numbers
+--   outside-limits   == the refusal number 3
 --   inLimits s asked round points rows answered == the test of a running record's numbers: 1 to 8 polynomials, a round of theirs, at most 64
 --                       points and rows, fewer answers than the round has products, and no more questions than such rounds can have had
 --   mostAsked        == a number above the questions of any such record
@@ -19,15 +20,15 @@ use lib.IntN.{ℤ}
 use lib.ListN.{take}
 use Rattle.signs.specs.Lists.{isBelow}
 use Rattle.rounds.specs.Rows.{maxPoints, maxPolynomials, Row, rowsWith}
-use Rattle.determination.specs.Run.{State, Phase, running, finished, closed, Step, ask, done, refused, Fetch, row, no-row, Copied, copied, not-copied, late, startOf}
+use Rattle.determination.specs.Run.{State, running, finished, closed, Step, ask, done, refused, Fetch, row, no-row, Copied, copied, not-copied, late, startOf}
 use Rattle.determination.specs.declared.Run.{Run}
 use Rattle.determination.specs.declared.Answered.{Answered}
 use Rattle.determination.specs.declared.Rows.{Rows}
+use Rattle.determination.specs.declared.Fetched.{Fetched}
 use Rattle.determination.specs.declared.Phase as code-phase
 use Rattle.determination.specs.declared.Phase.the-variants as phases
 use Rattle.determination.specs.declared.Step as code-step
 use Rattle.determination.specs.declared.Step.the-variants as steps
-use Rattle.determination.specs.declared.Fetched.{Fetched}
 use Rattle.determination.specs.declared.Fetched.the-variants as fetches
 use Rattle.determination.specs.declared.Copied as code-copied
 use Rattle.determination.specs.declared.Copied.the-variants as copies
