@@ -1,0 +1,59 @@
+-- Document 01's card, product by product, and the edges about queries, computed from the definitions. Assumes nothing.
+--
+--   example == the card of document 01, "One card through": P1 = X, P2 = X + 1, P3 = X − 2 at −3, 1, 3
+--   eight   == eight polynomials, each the constant 1, at the point 5
+--   root    == X at the point 0
+use mathlib.Core.Path.{_≡_, refl}
+use mathlib.Core.List.{List, [], _∷_, map}
+use Prim.Native.Nat.{ℕ}
+use lib.IntN.{pos, negsuc}
+use lib.ListN.{take}
+use Rattle.integers.specs.Sums.{sumTo}
+use Rattle.signs.specs.Lists.{upTo}
+use Rattle.signs.specs.Signs.{power}
+use Rattle.layout.specs.Format.{two's, offset, word}
+use Rattle.layout.specs.Values.{value, sign-digit}
+use Rattle.card.specs.Card.{some, contents, header, polynomial, coefficients, bodies, last, refusal}
+use Rattle.query.specs.declared.Answer.the-variants as of-query
+use Rattle.query.specs.Query.{productTo, queryOf, patternTo, patternsOf, queryAnswer}
+
+abbrev pub example : List ℕ
+example =
+    1 ∷ 3 ∷ 3 ∷ 0 ∷ 0 ∷ 12 ∷ 0 ∷ 21 ∷ 0 ∷ 30 ∷ 0 ∷ 39 ∷ 1 ∷ 0
+    ∷ 0 ∷ 0 ∷ 0 ∷ 0 ∷ 0 ∷ 0 ∷ 1 ∷ 1 ∷ 0 ∷ 0 ∷ 0 ∷ 1 ∷ 0 ∷ 0
+    ∷ 0 ∷ 1 ∷ 1 ∷ 255 ∷ 255 ∷ 255 ∷ 254 ∷ 0 ∷ 0 ∷ 0 ∷ 1 ∷ 253 ∷ 1 ∷ 3 ∷ []
+
+abbrev eight : List ℕ
+eight =
+    1 ∷ 8 ∷ 1 ∷ 0 ∷ 0 ∷ 22 ∷ 0 ∷ 27 ∷ 0 ∷ 32 ∷ 0 ∷ 37 ∷ 0 ∷ 42 ∷ 0 ∷ 47 ∷ 0 ∷ 52 ∷ 0 ∷ 57 ∷ 0 ∷ 62
+    ∷ 0 ∷ 0 ∷ 0 ∷ 0 ∷ 1 ∷ 0 ∷ 0 ∷ 0 ∷ 0 ∷ 1 ∷ 0 ∷ 0 ∷ 0 ∷ 0 ∷ 1 ∷ 0 ∷ 0 ∷ 0 ∷ 0 ∷ 1
+    ∷ 0 ∷ 0 ∷ 0 ∷ 0 ∷ 1 ∷ 0 ∷ 0 ∷ 0 ∷ 0 ∷ 1 ∷ 0 ∷ 0 ∷ 0 ∷ 0 ∷ 1 ∷ 0 ∷ 0 ∷ 0 ∷ 0 ∷ 1 ∷ 5 ∷ []
+
+abbrev root : List ℕ
+root = 1 ∷ 1 ∷ 1 ∷ 0 ∷ 0 ∷ 8 ∷ 0 ∷ 17 ∷ 1 ∷ 0 ∷ 0 ∷ 0 ∷ 0 ∷ 0 ∷ 0 ∷ 0 ∷ 1 ∷ 0 ∷ []
+
+pub record QueryEdges : Type 0 where
+  -- the Q lines: "Q 0 3, Q 1 1, Q 2 3, Q 3 1, Q 4 3, Q 6 3, Q 7 1, Q 9 −1, Q 10 1, Q 18 3, Q 19 1"
+  pub printed : map (queryAnswer example) (0 ∷ 1 ∷ 2 ∷ 3 ∷ 4 ∷ 6 ∷ 7 ∷ 9 ∷ 10 ∷ 18 ∷ 19 ∷ [])
+      ≡ map of-query.Number (pos 3 ∷ pos 1 ∷ pos 3 ∷ pos 1 ∷ pos 3 ∷ pos 3 ∷ pos 1 ∷ negsuc 0 ∷ pos 1 ∷ pos 3 ∷ pos 1 ∷ [])
+  -- the patterns of its points: − − − at −3, + + − at 1, + + + at 3
+  pub patterns : patternsOf example ≡ 26 ∷ 22 ∷ 13 ∷ []
+  -- "Product 6,560 is allowed with s = 8; 6,561: 13."
+  pub last-product : queryAnswer eight 6560 ≡ of-query.Number (pos 1)
+  pub past-last : queryAnswer eight 6561 ≡ of-query.Refused 13
+  -- a zero to the powers 0, 1, 2
+  pub at-root : map (queryAnswer root) (0 ∷ 1 ∷ 2 ∷ []) ≡ map of-query.Number (pos 1 ∷ pos 0 ∷ pos 0 ∷ [])
+  -- a card cut short is refused before the product
+  pub card-first : queryAnswer (take 41 example) 27 ≡ of-query.Refused 1
+
+pub query-edges : QueryEdges
+unfolding queryAnswer queryOf productTo patternsOf patternTo upTo sumTo power value sign-digit offset two's word refusal header contents bodies polynomial coefficients last some
+query-edges =
+    record {
+      printed = refl;
+      patterns = refl;
+      last-product = refl;
+      past-last = refl;
+      at-root = refl;
+      card-first = refl;
+    }
