@@ -16,3 +16,4 @@ pub mod Truthful
 pub mod Refusals
 pub mod Edges
 pub mod Contracts
+pub mod Starred

@@ -1,5 +1,5 @@
--- Document 01's starred edges about signs and adapted lists, computed from the definitions. The tables of the crates above begin with this one,
--- so that the whole is one theorem. Assumes nothing.
+-- Document 01's starred edges about signs and adapted lists, computed from the definitions. All starred lines are one table with one theorem in
+-- proofs/Starred.antt of `determination`. Assumes nothing.
 use mathlib.Core.Path.{_≡_, refl}
 use mathlib.Core.List.{List, [], _∷_}
 use lib.IntN.{pos}
