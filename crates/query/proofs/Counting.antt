@@ -6,7 +6,6 @@
 use mathlib.Core.Path.{_≡_, refl, sym, ap, ap₂, subst, _∙_}
 use mathlib.Core.Bool.{Bool, true, false, cond}
 use mathlib.Core.Logic.{⊎-elim}
-use mathlib.Core.List.{List}
 use Prim.Native.Nat.{ℕ, zero, suc, _+_, _*_, _-_, _/_, _%_, _^_, _<_, _≤_, min, max}
 use native.Mathlib.Omega.{arith}
 use native.Mathlib.Nat.{pow-suc, one-mul, pow-succ', one-le-pow, pow-le-pow-right, mod-lt, mod-eq-of-lt, div-eq-of-lt, div-lt-iff-lt-mul, div-div-eq-div-mul}
@@ -14,11 +13,11 @@ use lib.Arith.{digits-div, digits-mod, mod-mul}
 use lib.Bits.{bitAnd, bitOr, bitXor, differ, and-le-l}
 use lib.Count.{ones}
 use lib.Dec.{eqb}
-use lib.IntN.{ℤ, pos, negsuc, negℤ, _+ℤ_, _-ℤ_, _*ℤ_, zero-*ℤ, *ℤ-zero}
+use lib.IntN.{ℤ, pos, negsuc, _+ℤ_, _-ℤ_, _*ℤ_, zero-*ℤ, *ℤ-zero}
 use lib.ListN.{getD}
-use lib.Pow.{pow-pos, ones-lt}
+use lib.Pow.{ones-lt}
 use Rattle.integers.specs.Sums.{sumTo}
-use Rattle.integers.proofs.Diff.{one-*ℤ, minus-*ℤ}
+use Rattle.integers.proofs.Diff.{one-*ℤ}
 use Rattle.integers.proofs.Parts.{int, sum, dif}
 use Rattle.integers.proofs.Sums.{sumTo-ext}
 use Rattle.integers.proofs.Tests.{eq-cases}

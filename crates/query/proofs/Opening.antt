@@ -1,10 +1,12 @@
 -- An opened card: the words that `evaluate` leaves are those of `opened`, and what an opened card answers is `queryAnswer` of the card.
 -- Assumes nothing.
+--
+--   Filled c d s l == the list l holds the words of the first s polynomials for the sign digit d, and 0 for the others
 use mathlib.Core.Path.{_≡_, refl, sym, ap, subst, _∙_}
-use mathlib.Core.Bool.{Bool, true, false, cond, _||_}
+use mathlib.Core.Bool.{true, false, _||_}
 use mathlib.Core.Logic.{⊎-elim}
 use mathlib.Core.List.{List, [], _∷_, _++_, map}
-use Prim.Native.Nat.{ℕ, zero, suc, _+_, _*_, _^_, _<_, _≤_}
+use Prim.Native.Nat.{ℕ, zero, suc, _+_, _^_, _<_, _≤_}
 use native.Mathlib.Omega.{arith}
 use native.Mathlib.Numerals.{add-one}
 use borrow.Author.Tests.{lt-ltb, le-ltb, le-leb, lt-leb}
@@ -32,8 +34,8 @@ use Rattle.card.proofs.Most.{refusal-most}
 use Rattle.query.specs.declared.Opened.{Opened}
 use Rattle.query.specs.declared.Answer.{Answer}
 use Rattle.query.specs.declared.Answer.the-variants as of-query
-use Rattle.query.specs.Query.{productAt, queryOf, patternTo, patternAt, queryAnswer}
-use Rattle.query.specs.Opened.{bitAt, signBit, signWord, wordIn, Words, wordsOf, digitBy, columnTo, evaluated, refused, opened, summed, unlimited, refusedBy, answer}
+use Rattle.query.specs.Query.{productAt, queryOf, patternTo, queryAnswer}
+use Rattle.query.specs.Opened.{bitAt, signBit, signWord, wordIn, wordsOf, digitBy, columnTo, evaluated, refused, opened, summed, unlimited, refusedBy, answer}
 use Rattle.query.proofs.Patterns.{map-upTo, map-long, sgn-product}
 use Rattle.query.proofs.Words.{word-bit}
 
@@ -54,6 +56,10 @@ none-at zero k = refl
 none-at (suc n) zero = refl
 none-at (suc n) (suc k) = none-at n k
 
+pub record Filled (c : List ℕ) (d s : ℕ) (l : List ℕ) : Type 0 where
+  pub long : length l ≡ 8
+  pub at : (j : ℕ) → getD l j 0 ≡ wordIn c d s j
+
 module _ (c : List ℕ) (d : ℕ) where
   word-in : (s j : ℕ) → j < s → wordIn c d s j ≡ signWord c d j
   unfolding wordIn
@@ -63,12 +69,12 @@ module _ (c : List ℕ) (d : ℕ) where
   unfolding wordIn
   word-past s j h = rw (le-ltb j s h) refl
 
-  pub words-none : Words c d 0 (replicate 8 0)
-  words-none = record { long = length-replicate {A = ℕ} 8 0; at = λ j. none-at 8 j ∙ sym (word-past 0 j (omega arith)) }
+  pub filled-none : Filled c d 0 (replicate 8 0)
+  filled-none = record { long = length-replicate {A = ℕ} 8 0; at = λ j. none-at 8 j ∙ sym (word-past 0 j (omega arith)) }
 
   -- one polynomial more
-  pub words-next : (s : ℕ) (l : List ℕ) (v : ℕ) → Words c d s l → s < 8 → v ≡ signWord c d s → Words c d (s + 1) (set l s v)
-  words-next s l v m h e =
+  pub filled-next : (s : ℕ) (l : List ℕ) (v : ℕ) → Filled c d s l → s < 8 → v ≡ signWord c d s → Filled c d (s + 1) (set l s v)
+  filled-next s l v m h e =
       rw (add-one s) (record { long = simp length-set (m .long); at = λ j. ⊎-elim (λ w. here j (w .0)) (λ w. other j (w .0)) (eq-cases j s) })
     where
       here : (j : ℕ) → j ≡ s → getD (set l s v) j 0 ≡ wordIn c d (suc s) j
@@ -90,18 +96,18 @@ module _ (c : List ℕ) (d : ℕ) where
   unfolding wordsOf
   words-long = map-long (wordIn c d (polynomials c)) 8
 
-  words-all : (s : ℕ) (l : List ℕ) → s ≡ polynomials c → Words c d s l → l ≡ wordsOf c d
-  words-all s l e m =
+  filled-all : (s : ℕ) (l : List ℕ) → s ≡ polynomials c → Filled c d s l → l ≡ wordsOf c d
+  filled-all s l e m =
       ext-getD 0 l (wordsOf c d) (m .long ∙ sym words-long)
       (λ j h. m .at j ∙ ap (λ (i : ℕ). wordIn c d i j) e ∙ sym (words-at j (omega (arith, m .long))))
 
 -- ---- the opened card
 
-pub evaluated-is : (c : List ℕ) (s n : ℕ) (positive negative : List ℕ) → s ≡ polynomials c → n ≡ points c → Words c 1 s positive → Words c 2 s negative
+pub evaluated-is : (c : List ℕ) (s n : ℕ) (positive negative : List ℕ) → s ≡ polynomials c → n ≡ points c → Filled c 1 s positive → Filled c 2 s negative
     → _≡_ {A = Opened} (record { refusal = 0; s = s; n = n; positive = positive; negative = negative }) (evaluated c)
 evaluated-is c s n positive negative es en m₁ m₂ =
-    let e₁ = words-all c 1 s positive es m₁ in
-    let e₂ = words-all c 2 s negative es m₂ in
+    let e₁ = filled-all c 1 s positive es m₁ in
+    let e₂ = filled-all c 2 s negative es m₂ in
     rw (e₁, e₂, es, en) refl
 
 pub opened-sound : (c : List ℕ) → refusal c ≡ 0 → opened c ≡ evaluated c

@@ -5,7 +5,6 @@ use mathlib.Core.Logic.{⊎-elim}
 use Prim.Native.Nat.{ℕ, zero, suc, _+_, _*_, _-_, _/_, _%_, _^_, _<_, _≤_, min, max}
 use native.Mathlib.Omega.{arith}
 use native.Mathlib.Nat.{pow-suc, pow-succ', add-mul, mul-assoc, mul-comm, mul-left-comm, zero-add, zero-mul, zero-div, mod-lt, div-eq-of-lt, div-lt-iff-lt-mul, div-div-eq-div-mul, add-mul-div-right, add-mul-mod-self-right, mod-eq-of-lt, le-mul-of-pos-right}
-use native.Mathlib.Numerals.{add-one}
 use lib.Arith.{digits-mod, lt-one}
 use lib.Bits.{bitAnd, bitOr, bitXor, differ, and-step, or-step, xor-step, and-shr, or-shr, xor-shr}
 use lib.Count.{ones, ones-step}

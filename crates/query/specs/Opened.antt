@@ -1,30 +1,28 @@
 -- An opened card, and the query by its words. Assumes nothing: these are definitions. That the answer of an opened card is `queryAnswer` of the card
 -- is a law, and so is that the operations on words give the sum.
 --
---   bitAt w k      == bit k of the word w
---   wordOf f n     == the word whose bit k is f k, for the first n bits
+--   bitAt w k       == bit k of the word w
+--   wordOf f n      == the word whose bit k is f k, for the first n bits
 --   signBit c d j k == 1 where the sign digit of polynomial j at point k is d, else 0
---   signWord c d j == the points where the sign digit of polynomial j is d, one bit each
---   wordIn c d s j == the same for the first s polynomials, and 0 for those after them
---   Words c d s l  == l holds these words, eight in all
---   wordsOf c d    == the words of all polynomials, as a list
---   evaluated c    == a sound card c opened: its s, n and the words of its signs
---   refused m      == a card refused by the number m: no polynomials and no points
---   opened c       == the card c opened
---   digitBy u v    == the sign digit where the bit of `positive` is u and that of `negative` is v: 2 where v is set, else u
---   columnTo o s k == the pattern number of point k: of the first s polynomials, the sign digit that bit k of their words says
---   summed o α     == the sum of the signs of the product α over the points of the opened card o
---   unlimited o    == s is outside 1 .. 8, or n is above 64
---   refusedBy o α  == the number that refuses the opened card o or the product α, or 0: 3 where its own number is none of a card's, its own number,
---                     3 where s or n is outside its limits, 13 for the product. No card opens to the first or the third: an opened card may hold anything
---   answer o α     == what an opened card answers: that number, else the sum
-use mathlib.Core.Path.{_≡_}
+--   signWord c d j  == the points where the sign digit of polynomial j is d, one bit each
+--   wordIn c d s j  == the same for the first s polynomials, and 0 for those after them
+--   wordsOf c d     == these words for all polynomials, eight in all
+--   evaluated c     == a sound card c opened: its s, n and the words of its signs, + and −
+--   refused m       == a card refused by the number m: no polynomials and no points
+--   opened c        == the card c opened
+--   digitBy u v     == the sign digit where the bit of `positive` is u and that of `negative` is v: 2 where v is set, else u
+--   columnTo o s k  == the pattern number of point k: of the first s polynomials, the sign digit that bit k of their words says
+--   summed o α      == the sum of the signs of the product α over the points of the opened card o, by their columns
+--   unlimited o     == s is outside 1 .. 8, or n is above 64
+--   refusedBy o α   == the number that refuses the opened card o or the product α, or 0: 3 where its own number is none of a card's, its own number,
+--                      3 where s or n is outside its limits, 13 for the product. No card opens to the first or the third: an opened card may hold anything
+--   answer o α      == what an opened card answers: that number, else the sum
 use mathlib.Core.Bool.{Bool, cond, _||_}
 use mathlib.Core.List.{List, map}
 use Prim.Native.Nat.{ℕ, zero, suc, _+_, _*_, _/_, _%_, _^_}
 use lib.Dec.{eqb, ltb, leb}
 use lib.IntN.{ℤ}
-use lib.ListN.{length, getD, replicate}
+use lib.ListN.{getD, replicate}
 use Rattle.integers.specs.Sums.{sumTo}
 use Rattle.signs.specs.Lists.{upTo}
 use Rattle.signs.specs.Signs.{sign}
@@ -59,10 +57,6 @@ signWord c d j = wordOf (signBit c d j) (points c)
 
 unfoldable pub wordIn : List ℕ → ℕ → ℕ → ℕ → ℕ
 wordIn c d s j = cond (ltb j s) (signWord c d j) 0
-
-pub record Words (c : List ℕ) (d s : ℕ) (l : List ℕ) : Type 0 where
-  pub long : length l ≡ most-polynomials
-  pub at : (j : ℕ) → getD l j 0 ≡ wordIn c d s j
 
 unfoldable pub wordsOf : List ℕ → ℕ → List ℕ
 wordsOf c d = map (wordIn c d (polynomials c)) (upTo most-polynomials)

@@ -9,7 +9,6 @@ use mir.Syntax.{w64}
 use mir.Val.{SFits, toZ}
 use mir.Facts.{toZ-pos, toZ-ofZ}
 use Rattle.integers.proofs.Parts.{int, dif, parts}
-use borrow.Author.Needs.{needs}
 use Rattle.query.proofs.balance.Statement.{statement}
 use Rattle.query.proofs.balance.Tie as tie
 

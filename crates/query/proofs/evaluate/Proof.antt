@@ -1,17 +1,16 @@
 -- `query::evaluate` meets its contract: j polynomials have their words. Assumes nothing.
-use mathlib.Core.Path.{_≡_, sym, ap, _∙_}
+use mathlib.Core.Path.{_≡_, ap, _∙_}
 use Prim.Native.Nat.{_-_, _≤_, _<_}
 use native.Mathlib.Omega.{arith}
 use borrow.Author.Needs.{needs}
 use Rattle.layout.specs.Format.{offset}
 use Rattle.card.proofs.Places.{offset-place}
-use Rattle.query.specs.Opened.{Words}
-use Rattle.query.proofs.Opening.{words-none, words-next, evaluated-is}
+use Rattle.query.proofs.Opening.{Filled, filled-none, filled-next, evaluated-is}
 use Rattle.query.proofs.evaluate.Statement.{statement}
 use Rattle.query.proofs.evaluate.Tie as tie
 
 abbrev Inv-loop : tie.InvT-loop
-Inv-loop card s n from positive₀ negative₀ j₀ positive negative j = (j ≤ s) × Words card 1 j positive × Words card 2 j negative
+Inv-loop card s n from positive₀ negative₀ j₀ positive negative j = (j ≤ s) × Filled card 1 j positive × Filled card 2 j negative
 
 abbrev μ-loop : tie.MeasureT-loop
 μ-loop card s n from positive₀ negative₀ j₀ positive negative j = s - j
@@ -20,7 +19,7 @@ offset-requires : tie.Need-offset-requires Inv-loop μ-loop
 offset-requires c κs = offset-place _ (c .before .pre .0) (c .before .args .s) (omega arith)
 
 loop-holds : tie.Need-loop-holds Inv-loop μ-loop
-loop-holds c = (omega arith, words-none _ 1, words-none _ 2)
+loop-holds c = (omega arith, filled-none _ 1, filled-none _ 2)
 
 mark-requires : tie.Need-mark-requires Inv-loop μ-loop
 mark-requires c κs =
@@ -53,7 +52,7 @@ loop-again : tie.Need-loop-again Inv-loop μ-loop
 loop-again c =
     let l = c .before .before .loop in
     let m = c .mark .ensures in
-    (omega arith, words-next _ 1 (l .j) _ _ (l .inv .1) (eight c) (m .0), words-next _ 2 (l .j) _ _ (l .inv .2) (eight c) (m .1))
+    (omega arith, filled-next _ 1 (l .j) _ _ (l .inv .1) (eight c) (m .0), filled-next _ 2 (l .j) _ _ (l .inv .2) (eight c) (m .1))
 
 returns : tie.Need-returns Inv-loop μ-loop
 returns c =
