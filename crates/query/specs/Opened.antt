@@ -7,6 +7,8 @@
 --   evaluated c    == a sound card c opened: its s, n and the digits of its points
 --   refused m      == a card refused by the number m: no polynomials and no points
 --   opened c       == the card c opened
+--   counted a p₁ p₂ == 1 where each polynomial of the set a has a sign other than 0 at a point with the digits p₁ and p₂, else 0
+--   negative h m   == 1 where the point is counted (h is 1) and the set m has an odd number of polynomials, else 0
 --   summed ones twos a₁ a₂ n == the sum of the signs of the product with powers 1 at a₁ and 2 at a₂ over the first n points
 --   unlimited o    == s is outside 1 .. 8, or n is above 64
 --   refusedBy o α  == the number that refuses the opened card o or the product α, or 0: 3 where its own number is none of a card's, its own number,
@@ -15,13 +17,15 @@
 use mathlib.Core.Path.{_≡_}
 use mathlib.Core.Bool.{Bool, cond, _||_}
 use mathlib.Core.List.{List, map}
-use Prim.Native.Nat.{ℕ, _^_}
+use Prim.Native.Nat.{ℕ, _*_, _%_, _^_}
+use lib.Bits.{bitAnd, bitOr}
+use lib.Count.{ones as count}
 use lib.Dec.{ltb, leb}
 use lib.IntN.{ℤ}
 use lib.ListN.{length, getD, replicate}
 use Rattle.integers.specs.Sums.{sumTo}
 use Rattle.signs.specs.Lists.{upTo}
-use Rattle.signs.specs.Bits.{places, signBits}
+use Rattle.signs.specs.Bits.{bitOf, places, signBits}
 use Rattle.layout.specs.Limits.{most-polynomials, most-points}
 use Rattle.layout.specs.Format.{polynomials, points}
 use Rattle.card.specs.Numbers.{wrong-count, wrong-point, _when_, _▸_}
@@ -50,6 +54,12 @@ refused m = record { refusal = m; s = 0; n = 0; ones = replicate most-points 0; 
 
 unfoldable pub opened : List ℕ → opened-card.Opened
 opened c = unless (refusal c) refused (evaluated c)
+
+abbrev pub counted : ℕ → ℕ → ℕ → ℕ
+counted a p₁ p₂ = bitOf (bitAnd a (bitOr p₁ p₂)) a
+
+abbrev pub negative : ℕ → ℕ → ℕ
+negative h m = h * (count m % 2)
 
 unfoldable pub summed : List ℕ → List ℕ → ℕ → ℕ → ℕ → ℤ
 summed ones twos a₁ a₂ n = sumTo (λ k. signBits a₁ a₂ (getD ones k 0) (getD twos k 0)) n

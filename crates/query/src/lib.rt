@@ -4,21 +4,16 @@
 // product number and any opened card have an answer, and what is lent stays as it was.
 ghost use mathlib.Core.Path.{_≡_};
 ghost use Prim.Native.Nat.{_+_, _^_, _≤_, _<_};
-ghost use lib.IntN.{natAbs};
 ghost use Rattle.layout.specs.Format.{polynomials, points, points-at};
-ghost use Rattle.layout.specs.Body.{Small};
-ghost use Rattle.layout.specs.Values.{value, sign-digit};
 ghost use Rattle.card.specs.Sound.{Sound};
-ghost use Rattle.query.specs.Opened.{Marks, evaluated, opened, answer, summed};
+ghost use Rattle.query.specs.Opened.{Marks, evaluated, opened, answer, counted, negative, summed};
 ghost use Rattle.query.specs.Query.{queryAnswer};
 use card::Card;
 use card::numbers;
 use layout::values;
-use signs::Places;
 use signs::Product;
 use signs::digits_of;
 use signs::power;
-use signs::sign_by;
 
 // The numbers that refuse (document 01, "Cause, and what the caller gets"): those of `card`, as wide as a run's, and that of a product.
 const NONE: u16 = numbers::NONE as u16; // not refused
@@ -46,40 +41,31 @@ pub struct Opened {
     pub refusal: u16,
     pub s: usize,
     pub n: usize,
-    pub ones: [u32; MOST_POINTS],
-    pub twos: [u32; MOST_POINTS],
+    pub ones: [u8; MOST_POINTS],
+    pub twos: [u8; MOST_POINTS],
 }
 
 // The weight of bit j.
-fn weight(j: usize) -> u32
+fn weight(j: usize) -> u8
     requires { ⌜ j < 8 ⌝ }
     ensures { λ r. ⌜ r ≡ 2 ^ j ⌝ }
 {
     1 << j
 }
 
-// The digit of the sign at x of the polynomial that begins at byte at.
-fn sign_at(card: &[u8], at: usize, x: i64) -> u16
-    requires { ⌜ Small (now card) at × (natAbs x ≤ 128) ⌝ }
-    ensures { λ r. ⌜ r ≡ sign-digit (value (now (card .entry)) at x) ⌝ }
-{
-    let p = values::polynomial(card, at);
-    values::sign(&p, x)
-}
-
 // Sets the bits of polynomial j at the n points, which begin at byte from.
-fn mark(card: &[u8], j: usize, from: usize, n: usize, ones: &mut [u32], twos: &mut [u32])
+fn mark(card: &[u8], j: usize, from: usize, n: usize, ones: &mut [u8], twos: &mut [u8])
     requires { ⌜ Sound (now card) × (j < polynomials (now card)) × (from ≡ points-at (now card)) × (n ≡ points (now card)) ⌝ }
     requires { ⌜ Marks (now card) 1 j (now ones) × Marks (now card) 2 j (now twos) ⌝ }
     ensures { λ _. ⌜ Marks (now (card .entry)) 1 (j + 1) (now (ones .exit)) × Marks (now (card .entry)) 2 (j + 1) (now (twos .exit)) ⌝ }
 {
-    let at = layout::offset(card, j);
+    let p = values::polynomial(card, layout::offset(card, j));
     let w = weight(j);
     let mut k = 0;
     while k < n {
-        let d = sign_at(card, at, layout::point(card, from, k));
-        ones[k] = ones[k] + signs::bit(d, 1) as u32 * w;
-        twos[k] = twos[k] + signs::bit(d, 2) as u32 * w;
+        let d = values::sign(&p, layout::point(card, from, k));
+        ones[k] = ones[k] + signs::bit(d, 1) * w;
+        twos[k] = twos[k] + signs::bit(d, 2) * w;
         k += 1;
     }
 }
@@ -90,8 +76,8 @@ fn evaluate(card: &[u8], s: usize, n: usize) -> Opened
     ensures { λ r. ⌜ r ≡ evaluated (now (card .entry)) ⌝ }
 {
     let from = layout::offset(card, s);
-    let mut ones = [0u32; MOST_POINTS];
-    let mut twos = [0u32; MOST_POINTS];
+    let mut ones = [0u8; MOST_POINTS];
+    let mut twos = [0u8; MOST_POINTS];
     let mut j = 0;
     while j < s {
         mark(card, j, from, n, &mut ones, &mut twos);
@@ -117,33 +103,48 @@ pub fn open(card: &[u8]) -> Opened
             refusal: m as u16,
             s: 0,
             n: 0,
-            ones: [0u32; MOST_POINTS],
-            twos: [0u32; MOST_POINTS],
+            ones: [0u8; MOST_POINTS],
+            twos: [0u8; MOST_POINTS],
         },
     }
 }
 
-// The sum of a product's signs over the points of an opened card, by digits.
-fn sum(card: Opened, product: Places) -> i64
-    requires { ⌜ card .n ≤ 64 ⌝ }
-    ensures { λ r. ⌜ r ≡ summed (card .ones) (card .twos) (product .ones) (product .twos) (card .n) ⌝ }
+// 1 where every polynomial with a power has a sign other than 0 at a point, whose digits 1 and 2 are given, else 0.
+fn counted(powered: u8, one: u8, two: u8) -> u8
+    ensures { λ r. ⌜ (r ≡ counted powered one two) × (r ≤ 1) ⌝ }
 {
-    let n = card.n;
-    let ones = card.ones;
-    let twos = card.twos;
-    let mut sum: i64 = 0;
+    if powered & (one | two) == powered {
+        1
+    } else {
+        0
+    }
+}
+
+// 1 where a point is counted and the polynomials with the power 1 that are negative there are odd in number, else 0.
+fn negative(here: u8, minus: u8) -> u8
+    requires { ⌜ here ≤ 1 ⌝ }
+    ensures { λ r. ⌜ (r ≡ negative here minus) × (r ≤ here) ⌝ }
+{
+    here * (u8::count_ones(minus) % 2) as u8
+}
+
+// The sum of a product's signs over the first n points by their digits: how many are not 0, less twice those that are negative. The product has the
+// power 1 at the polynomials of `once` and the power 2 at those of `twice`.
+fn sum(ones: [u8; MOST_POINTS], twos: [u8; MOST_POINTS], n: usize, once: u8, twice: u8) -> i64
+    requires { ⌜ n ≤ 64 ⌝ }
+    ensures { λ r. ⌜ r ≡ summed ones twos once twice n ⌝ }
+{
+    let powered = once | twice;
+    let mut some: u8 = 0;
+    let mut minus: u8 = 0;
     let mut k = 0;
     while k < n {
-        sum += sign_by(
-            product,
-            Places {
-                ones: ones[k],
-                twos: twos[k],
-            },
-        );
+        let here = counted(powered, ones[k], twos[k]);
+        some += here;
+        minus += negative(here, once & twos[k]);
         k += 1;
     }
-    sum
+    some as i64 - (2 * minus) as i64
 }
 
 // The query of a product on an opened card. The card's own number comes first, then 13 for a product number above 3^s − 1. An opened card that `open`
@@ -169,7 +170,10 @@ pub fn ask(card: Opened, a: Product) -> Answer
     if power(card.s) <= a.0 {
         return Answer::Refused(PRODUCT);
     }
-    Answer::Number(sum(card, digits_of(a.0, card.s)))
+    let ones = card.ones;
+    let twos = card.twos;
+    let powers = digits_of(a.0, card.s);
+    Answer::Number(sum(ones, twos, card.n, powers.ones as u8, powers.twos as u8))
 }
 
 // The query of a product on a card, in one call: the number that refuses the card, then 13 for a product number above 3^s − 1, else the query.

@@ -1,5 +1,5 @@
 -- `query::mark` meets its contract: k points have their digit of polynomial j. Assumes nothing.
-use mathlib.Core.Path.{_≡_, refl}
+use mathlib.Core.Path.{_≡_, refl, ap, _∙_}
 use mathlib.Core.List.{List}
 use Prim.Native.Nat.{ℕ, _+_, _*_, _-_, _^_, _≤_, _<_}
 use native.Mathlib.Omega.{arith}
@@ -10,29 +10,32 @@ use mir.Syntax.{w64}
 use mir.Val.{SFits, toZ, ofZ}
 use mir.Facts.{toZ-ofZ}
 use Rattle.signs.specs.Bits.{bitOf}
-use Rattle.layout.specs.Format.{points, offset, points-at, point}
-use Rattle.layout.specs.Values.{value, value-of, sign-digit}
+use Rattle.layout.specs.Format.{polynomials, points, offset, points-at, point, point-of}
+use Rattle.layout.specs.Values.{evaluate, polynomial, value-of, sign-digit}
 use Rattle.card.specs.Sound.{Sound}
-use Rattle.card.proofs.Places.{offset-place, point-place, point-within}
+use Rattle.card.proofs.Places.{offset-place, body-place, body-within, point-place, point-within, point-value}
 use Rattle.query.proofs.Marking.{Marking, marking-none, marking-next, marking-all, bit-small, store-small}
 use Rattle.query.proofs.mark.Statement.{statement}
 use Rattle.query.proofs.mark.Tie as tie
 
 abbrev Inv-loop : tie.InvT-loop
-Inv-loop card j from n ones₀ twos₀ at w k₀ ones twos k = (k ≤ n) × Marking card 1 j k ones × Marking card 2 j k twos
+Inv-loop card j from n ones₀ twos₀ p w k₀ ones twos k = (k ≤ n) × Marking card 1 j k ones × Marking card 2 j k twos
 
 abbrev μ-loop : tie.MeasureT-loop
-μ-loop card j from n ones₀ twos₀ at w k₀ ones twos k = n - k
+μ-loop card j from n ones₀ twos₀ p w k₀ ones twos k = n - k
 
 -- ---- what a turn knows: the point, its place and its digit
 
-module _ (c : List ℕ) (sound : Sound c) (j from n at k : ℕ) (x : ℤ) (h : k < n) (en : n ≡ points c) (ef : from ≡ points-at c)
-    (ea : at ≡ offset c j) (ex : x ≡ point c from k) (f : SFits w64 x) where
+module _ (c : List ℕ) (sound : Sound c) (j from n k : ℕ) (x : ℤ) (h : k < n) (en : n ≡ points c) (ef : from ≡ points-at c)
+    (ex : x ≡ point c from k) (f : SFits w64 x) where
   within : natAbs (toZ w64 (ofZ w64 x)) ≤ 128
   within = rw (toZ-ofZ f, ex, ef) (point-within c sound k (omega arith))
 
-  digit-is : (d : ℕ) → d ≡ sign-digit (value c at (toZ w64 (ofZ w64 x))) → d ≡ sign-digit (value-of c j k)
-  digit-is d e = rw (toZ-ofZ f, ex, ef, ea) at e
+  digit-is : (p : List ℤ) (d : ℕ) → p ≡ polynomial c (offset c j) → j < polynomials c → d ≡ sign-digit (evaluate p (toZ w64 (ofZ w64 x)))
+      → d ≡ sign-digit (value-of c j k)
+  digit-is p d ep b e =
+      let g : d ≡ sign-digit (evaluate (polynomial c (offset c j)) (point-of c k)) = (rw (toZ-ofZ f, ex, ef, ep) at e) in
+      g ∙ ap sign-digit (point-value c sound j k b)
 
 -- the digit's bit in a list on its way
 next : (c : List ℕ) (t s k : ℕ) (l : List ℕ) (d b w : ℕ) → Marking c t s k l → k < points c → k < 64 → d ≡ sign-digit (value-of c s k)
@@ -44,26 +47,31 @@ offset-requires c κs =
     let s = c .before .before .before in
     offset-place _ (s .pre .0 .0) (s .args .j) (omega arith)
 
+polynomial-requires : tie.Need-polynomial-requires Inv-loop μ-loop
+polynomial-requires c κs =
+    let p = c .before .before .before .before .pre .0 in
+    rw (c .offset .ensures) (body-place _ (p .0) _ (p .1))
+
 weight-requires : tie.Need-weight-requires Inv-loop μ-loop
-weight-requires c κs = let s = c .before .before .before .before in omega (arith, s .pre .0 .0 .s-most)
+weight-requires c κs = let s = c .before .before .before .before .before in omega (arith, s .pre .0 .0 .s-most)
 
 loop-holds : tie.Need-loop-holds Inv-loop μ-loop
 loop-holds c =
-    let s = c .before .before .before .before .before in
+    let s = c .before .before .before .before .before .before in
     (omega arith, marking-none _ 1 _ _ (s .pre .1 .0), marking-none _ 2 _ _ (s .pre .1 .1))
 
 point-requires : tie.Need-point-requires Inv-loop μ-loop
 point-requires c κs =
-    let s = c .before .before .before .before .before .before .before in
-    omega (arith, point-place _ (s .pre .0 .0) (c .before .loop .k) (omega arith))
+    let s = c .before .before .before .before .before .before .before .before .before in
+    omega (arith, point-place _ (s .pre .0 .0) (c .before .before .loop .k) (omega arith))
 
-sign-at-requires : tie.Need-sign-at-requires Inv-loop μ-loop
-sign-at-requires c κs =
-    let s = c .before .before .before .before .before .before .before .before in
+sign-requires : tie.Need-sign-requires Inv-loop μ-loop
+sign-requires c κs =
+    let s = c .before .before .before .before .before .before .before .before .before .before in
     let p = s .pre .0 in
-    let a = c .before .before .before .before .offset .ensures in (
-      rw a (p .0 .body (s .args .j) (p .1) .small),
-      within _ (p .0) _ _ _ _ _ _ (c .before .loop-test .taken) (p .3) (p .2) a (c .point .ensures) (sfits-of (c .point .ok)),
+    let a = c .before .before .before .before .before .polynomial .ensures in (
+      rw (a, c .before .before .before .before .before .before .offset .ensures) (body-within _ (p .0) _ (p .1)),
+      within _ (p .0) (s .args .j) _ _ _ _ (c .before .before .loop-test .taken) (p .3) (p .2) (c .point .ensures) (sfits-of (c .point .ok)),
     )
 
 record Turn (c : List ℕ) (j k d : ℕ) : Type 0 where
@@ -72,23 +80,21 @@ record Turn (c : List ℕ) (j k d : ℕ) : Type 0 where
   pub eight : j < 8
   pub digit : d ≡ sign-digit (value-of c j k)
 
-turn : (c : tie.After-sign-at Inv-loop μ-loop) →
-    let s = c .before .before .before .before .before .before .before .before .before in
-    Turn (s .args .card .now) (s .args .j) (c .before .before .before .loop .k) (c .sign-at .result)
+turn : (c : tie.After-sign Inv-loop μ-loop) →
+    let s = c .before .before .before .before .before .before .before .before .before .before .before in
+    Turn (s .args .card .now) (s .args .j) (c .before .before .before .before .loop .k) (c .sign .result)
 turn c =
-    let s = c .before .before .before .before .before .before .before .before .before in
+    let s = c .before .before .before .before .before .before .before .before .before .before .before in
     let p = s .pre .0 in
-    let a = c .before .before .before .before .before .offset .ensures in
+    let o = c .before .before .before .before .before .before .before .offset .ensures in
+    let a : c .before .before .before .before .before .before .polynomial .result ≡ polynomial (s .args .card .now) (offset (s .args .card .now) (s .args .j)) = (rw o at (c .before .before .before .before .before .before .polynomial .ensures)) in
     let x = c .before .point in
     record {
       few = omega (arith, p .0 .n-most);
       below = omega arith;
       eight = omega (arith, p .0 .s-most);
-      digit = digit-is _ (p .0) _ _ _ _ _ _ (c .before .before .loop-test .taken) (p .3) (p .2) a (x .ensures) (sfits-of (x .ok)) _ (c .sign-at .ensures);
+      digit = digit-is _ (p .0) _ _ _ _ _ (c .before .before .before .loop-test .taken) (p .3) (p .2) (x .ensures) (sfits-of (x .ok)) _ _ a (p .1) (c .sign .ensures);
     }
-
-mul-ones : tie.Need-mul-ones Inv-loop μ-loop
-mul-ones c = let t = turn c in search needs
 
 slice-read-ones : tie.Need-slice-read-ones Inv-loop μ-loop
 slice-read-ones c = let t = turn (c .before) in search needs
@@ -96,30 +102,21 @@ slice-read-ones c = let t = turn (c .before) in search needs
 bit-requires : tie.Need-bit-requires Inv-loop μ-loop
 bit-requires c κs = search needs
 
-cast-ones : tie.Need-cast-ones Inv-loop μ-loop
-cast-ones c = search needs
-
-mul-ones-2 : tie.Need-mul-ones-2 Inv-loop μ-loop
-mul-ones-2 c =
+mul-ones : tie.Need-mul-ones Inv-loop μ-loop
+mul-ones c =
     let t = turn (c .before .before) in
-    let b = bit-small _ _ _ (t .eight) (c .bit .ensures .1) (c .before .before .before .before .before .before .weight .ensures) in
+    let b = bit-small _ _ _ (t .eight) (c .bit .ensures .1) (c .before .before .before .before .before .before .before .weight .ensures) in
     search needs
 
 add-ones : tie.Need-add-ones Inv-loop μ-loop
 add-ones c =
     let t = turn (c .before .before) in
-    let l = c .before .before .before .before .before in
+    let l = c .before .before .before .before .before .before in
     let b = store-small _ 1 _ _ _ _ _ (l .loop .inv .1) (t .below) (t .eight) (c .bit .ensures .1) (l .before .weight .ensures) in
     search needs
 
-mul-ones-3 : tie.Need-mul-ones-3 Inv-loop μ-loop
-mul-ones-3 c = let t = turn (c .before .before) in search needs
-
 slice-write-ones : tie.Need-slice-write-ones Inv-loop μ-loop
 slice-write-ones c = let t = turn (c .before .before) in search needs
-
-mul-twos : tie.Need-mul-twos Inv-loop μ-loop
-mul-twos c = let t = turn (c .before .before) in search needs
 
 slice-read-twos : tie.Need-slice-read-twos Inv-loop μ-loop
 slice-read-twos c = let t = turn (c .before .before .before) in search needs
@@ -127,24 +124,18 @@ slice-read-twos c = let t = turn (c .before .before .before) in search needs
 bit-requires-2 : tie.Need-bit-requires-2 Inv-loop μ-loop
 bit-requires-2 c κs = search needs
 
-cast-twos : tie.Need-cast-twos Inv-loop μ-loop
-cast-twos c = search needs
-
-mul-twos-2 : tie.Need-mul-twos-2 Inv-loop μ-loop
-mul-twos-2 c =
+mul-twos : tie.Need-mul-twos Inv-loop μ-loop
+mul-twos c =
     let t = turn (c .before .before .before .before) in
-    let b = bit-small _ _ _ (t .eight) (c .bit2 .ensures .1) (c .before .before .before .before .before .before .before .before .weight .ensures) in
+    let b = bit-small _ _ _ (t .eight) (c .bit2 .ensures .1) (c .before .before .before .before .before .before .before .before .before .weight .ensures) in
     search needs
 
 add-twos : tie.Need-add-twos Inv-loop μ-loop
 add-twos c =
     let t = turn (c .before .before .before .before) in
-    let l = c .before .before .before .before .before .before .before in
+    let l = c .before .before .before .before .before .before .before .before in
     let b = store-small _ 2 _ _ _ _ _ (l .loop .inv .2) (t .below) (t .eight) (c .bit2 .ensures .1) (l .before .weight .ensures) in
     search needs
-
-mul-twos-3 : tie.Need-mul-twos-3 Inv-loop μ-loop
-mul-twos-3 c = let t = turn (c .before .before .before .before) in search needs
 
 slice-write-twos : tie.Need-slice-write-twos Inv-loop μ-loop
 slice-write-twos c = let t = turn (c .before .before .before .before) in search needs
@@ -158,7 +149,7 @@ loop-less c = search needs
 loop-again : tie.Need-loop-again Inv-loop μ-loop
 loop-again c =
     let t = turn (c .before .before .before .before) in
-    let l = c .before .before .before .before .before .before .before in
+    let l = c .before .before .before .before .before .before .before .before in
     let w = l .before .weight .ensures in (
       search needs,
       next _ 1 _ _ _ _ _ _ (l .loop .inv .1) (t .below) (t .few) (t .digit) (c .before .before .bit .ensures .0) w,
@@ -183,25 +174,20 @@ mark-spec =
     Inv-loop
     μ-loop
     offset-requires
+    polynomial-requires
     weight-requires
     loop-holds
     point-requires
-    sign-at-requires
-    mul-ones
+    sign-requires
     slice-read-ones
     bit-requires
-    cast-ones
-    mul-ones-2
+    mul-ones
     add-ones
-    mul-ones-3
     slice-write-ones
-    mul-twos
     slice-read-twos
     bit-requires-2
-    cast-twos
-    mul-twos-2
+    mul-twos
     add-twos
-    mul-twos-3
     slice-write-twos
     add-k
     loop-less

@@ -1,60 +1,61 @@
--- `query::sum` meets its contract: the sum is that over the points passed. Assumes nothing.
-use mathlib.Core.Path.{_≡_, sym, ap₂, _∙_}
-use Prim.Native.Nat.{_+_, _-_, _≤_}
+-- `query::sum` meets its contract: of the points passed, those counted and those negative. Assumes nothing.
+use mathlib.Core.Path.{_≡_, refl, ap, _∙_}
+use Prim.Native.Nat.{ℕ, _+_, _*_, _-_, _≤_}
 use native.Mathlib.Omega.{arith}
 use borrow.Author.Needs.{needs}
-use lib.IntN.{_+ℤ_}
+use lib.Bits.{bitOr}
+use lib.IntN.{pos, _-ℤ_}
 use mir.Syntax.{w64}
-use mir.Val.{SFits, toZ, ofZ}
-use mir.Facts.{toZ-ofZ}
-use Rattle.integers.proofs.I64.{fits-abs}
+use mir.Val.{SFits, toZ}
+use mir.Facts.{toZ-pos, toZ-ofZ}
+use Rattle.integers.proofs.Parts.{int, dif, parts}
 use Rattle.query.specs.Opened.{summed}
-use Rattle.query.proofs.Summing.{summed-none, summed-next, summed-abs}
+use Rattle.query.proofs.Summing.{Summing, summing-none, summing-next}
 use Rattle.query.proofs.sum.Statement.{statement}
 use Rattle.query.proofs.sum.Tie as tie
 
 abbrev Inv-loop : tie.InvT-loop
-Inv-loop product n ones twos sum₀ k₀ sum k = (k ≤ n) × (n ≤ 64) × (toZ w64 sum ≡ summed ones twos (product .ones) (product .twos) k)
+Inv-loop n once twice ones twos powered some₀ minus₀ k₀ some minus k = (k ≤ n) × (n ≤ 64) × Summing ones twos once twice k some minus
 
 abbrev μ-loop : tie.MeasureT-loop
-μ-loop product n ones twos sum₀ k₀ sum k = n - k
+μ-loop n once twice ones twos powered some₀ minus₀ k₀ some minus k = n - k
 
--- the next sum, which fits since it is no more than the number of points passed
-next : (c : tie.After-sign-by Inv-loop μ-loop) →
-    let l = c .before .before in
-    let o = l .before .before .before .args .card in
-    let a = l .before .before .before .args .product in
-    (toZ w64 (l .loop .sum) +ℤ toZ w64 (ofZ w64 (c .sign-by .result)) ≡ summed (o .ones) (o .twos) (a .ones) (a .twos) (l .loop .k + 1))
-    × SFits w64 (summed (o .ones) (o .twos) (a .ones) (a .twos) (l .loop .k + 1))
-next c =
-    let l = c .before .before .loop in
-    let o = c .before .before .before .before .before .args .card in
-    let a = c .before .before .before .before .before .args .product in (
-      ap₂ _+ℤ_ (l .inv .2) (toZ-ofZ {w = w64} (record { sfits = c .sign-by .ok }) ∙ c .sign-by .ensures)
-          ∙ sym (summed-next (o .ones) (o .twos) (a .ones) (a .twos) (l .k)),
-      fits-abs _ (omega (arith, summed-abs (o .ones) (o .twos) (a .ones) (a .twos) (l .k + 1))),
-    )
+-- ---- the difference, as the machine has it
+module _ (some minus : ℕ) (l : some ≤ 64) (m : minus ≤ some) where
+  apart : toZ w64 some -ℤ toZ w64 (2 * minus) ≡ pos some -ℤ pos (2 * minus)
+  apart =
+      let e : toZ w64 some ≡ pos some = toZ-pos w64 (omega arith) in
+      let f : toZ w64 (2 * minus) ≡ pos (2 * minus) = toZ-pos w64 (omega arith) in
+      rw (e, f)
+
+  less : SFits w64 (toZ w64 some -ℤ toZ w64 (2 * minus))
+  less = rw apart (omega (int, dif (pos some) (pos (2 * minus)), parts (pos some -ℤ pos (2 * minus))))
 
 loop-holds : tie.Need-loop-holds Inv-loop μ-loop
-loop-holds c = (omega arith, c .before .before .pre, sym (summed-none _ _ _ _))
+loop-holds c = (omega arith, c .pre, summing-none _ _ _ _)
 
-mul-t10 : tie.Need-mul-t10 Inv-loop μ-loop
-mul-t10 c = search needs
+array-read-counted : tie.Need-array-read-counted Inv-loop μ-loop
+array-read-counted c = search needs
 
-array-read-t13 : tie.Need-array-read-t13 Inv-loop μ-loop
-array-read-t13 c = search needs
+array-read-counted-2 : tie.Need-array-read-counted-2 Inv-loop μ-loop
+array-read-counted-2 c = search needs
 
-mul-t14 : tie.Need-mul-t14 Inv-loop μ-loop
-mul-t14 c = search needs
+counted-requires : tie.Need-counted-requires Inv-loop μ-loop
+counted-requires c κs = tt
 
-array-read-t17 : tie.Need-array-read-t17 Inv-loop μ-loop
-array-read-t17 c = search needs
+add-some : tie.Need-add-some Inv-loop μ-loop
+add-some c = let i = c .before .before .loop .inv in omega (arith, i .2 .few, c .counted .ensures .1)
 
-sign-by-requires : tie.Need-sign-by-requires Inv-loop μ-loop
-sign-by-requires c κs = tt
+array-read-negative : tie.Need-array-read-negative Inv-loop μ-loop
+array-read-negative c = search needs
 
-add-sum : tie.Need-add-sum Inv-loop μ-loop
-add-sum c = rw (next c .0) (next c .1)
+negative-requires : tie.Need-negative-requires Inv-loop μ-loop
+negative-requires c κs = c .counted .ensures .1
+
+add-minus : tie.Need-add-minus Inv-loop μ-loop
+add-minus c =
+    let i = c .before .before .before .loop .inv in
+    omega (arith, i .2 .few, i .2 .less, c .before .counted .ensures .1, c .negative .ensures .1)
 
 add-k : tie.Need-add-k Inv-loop μ-loop
 add-k c = search needs
@@ -64,11 +65,30 @@ loop-less c = search needs
 
 loop-again : tie.Need-loop-again Inv-loop μ-loop
 loop-again c =
-    let n = next c in
-    (search needs, c .before .before .loop .inv .1, rw (n .0) (toZ-ofZ (n .1)))
+    let i = c .before .before .before .loop .inv in
+    let h = c .before .counted .ensures in
+    let m = c .negative .ensures in
+    (omega arith, i .1, summing-next _ _ _ _ _ _ _ _ _ (i .2) (h .1) (m .1) (h .0) (m .0))
+
+cast-result : tie.Need-cast-result Inv-loop μ-loop
+cast-result c = search needs
+
+mul-result : tie.Need-mul-result Inv-loop μ-loop
+mul-result c = let i = c .before .loop .inv in omega (arith, i .2 .few, i .2 .less)
+
+cast-result-2 : tie.Need-cast-result-2 Inv-loop μ-loop
+cast-result-2 c = let i = c .before .loop .inv in let l : c .before .loop .minus ≤ 64 = omega (arith, i .2 .few, i .2 .less) in search needs
+
+sub-result : tie.Need-sub-result Inv-loop μ-loop
+sub-result c = let i = c .before .loop .inv in less _ _ (omega (arith, i .2 .few)) (i .2 .less)
 
 returns : tie.Need-returns Inv-loop μ-loop
-returns c = let e : c .before .loop .k ≡ c .before .before .before .before .args .card .n = omega arith in (rw e at (c .before .loop .inv .2))
+returns c =
+    let i = c .before .loop .inv in
+    let a = c .before .before .args in
+    let e : c .before .loop .k ≡ a .n = omega arith in
+    let l : c .before .loop .some ≤ 64 = omega (arith, i .2 .few) in
+    toZ-ofZ (less _ _ l (i .2 .less)) ∙ apart _ _ l (i .2 .less) ∙ i .2 .is ∙ ap (summed (a .t1) (a .t2) (a .once) (a .twice)) e
 
 pub sum-spec : {M : Type 1} → statement M
 sum-spec =
@@ -77,13 +97,18 @@ sum-spec =
     Inv-loop
     μ-loop
     loop-holds
-    mul-t10
-    array-read-t13
-    mul-t14
-    array-read-t17
-    sign-by-requires
-    add-sum
+    array-read-counted
+    array-read-counted-2
+    counted-requires
+    add-some
+    array-read-negative
+    negative-requires
+    add-minus
     add-k
     loop-less
     loop-again
+    cast-result
+    mul-result
+    cast-result-2
+    sub-result
     returns)

@@ -14,7 +14,7 @@ shl-result : tie.Need-shl-result
 shl-result c = search needs
 
 returns : tie.Need-returns
-returns c = shl-exact 1 (c .args .j) 32 (omega arith) (omega arith) ∙ one-mul _
+returns c = shl-exact 1 (c .args .j) 8 (omega arith) (omega arith) ∙ one-mul _
 
 pub weight-spec : {M : Type 1} → statement M
 weight-spec = tie.close (tie.spec cast-result shl-result returns)

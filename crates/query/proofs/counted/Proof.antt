@@ -1,0 +1,15 @@
+-- `query::counted` meets its contract. Assumes nothing.
+use mathlib.Core.Path.{refl}
+use native.Mathlib.Omega.{arith}
+use borrow.Author.Tests.{eq-eqb, ne-eqb}
+use Rattle.query.proofs.counted.Statement.{statement}
+use Rattle.query.proofs.counted.Tie as tie
+
+returns : tie.Need-returns
+returns c = (rw (eq-eqb _ _ (c .if1 .taken)) refl, omega arith)
+
+returns-2 : tie.Need-returns-2
+returns-2 c = (rw (ne-eqb _ _ (c .if1 .left)) refl, omega arith)
+
+pub counted-spec : {M : Type 1} → statement M
+counted-spec = tie.close (tie.spec returns returns-2)
