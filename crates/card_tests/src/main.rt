@@ -22,20 +22,12 @@ fn print_number(n: u64) {
     io::print_decimal(STDOUT_FILENO, n);
 }
 
-// The absolute value, also of the least number.
-fn magnitude(v: i64) -> u64 {
-    if v < 0 {
-        return ((0 - (v + 1)) as u64) + 1;
-    }
-    v as u64
-}
-
 fn print_signed(v: i64) {
     put(b' ');
     if v < 0 {
         put(b'-');
     }
-    io::print_decimal(STDOUT_FILENO, magnitude(v));
+    io::print_decimal(STDOUT_FILENO, integers::magnitude(v));
 }
 
 fn print_value(card: &[u8], j: usize, x: i8) {
@@ -56,7 +48,8 @@ fn weight(bytes: &[u8]) -> usize {
     sum
 }
 
-fn print_position(card: &[u8], j: usize) {
+// Where the body stands, or the number that refuses the card or the position.
+fn print_place(card: &[u8], j: usize) {
     match card::locate(card, j) {
         Stretch::At { start, len } => {
             put(b'A');
@@ -68,9 +61,17 @@ fn print_position(card: &[u8], j: usize) {
             print_number(number as u64);
         }
     }
+}
+
+fn print_body(card: &[u8], j: usize) {
     let bytes = card::body(card, j);
     print_number(bytes.len() as u64);
     print_number(weight(bytes) as u64);
+}
+
+fn print_position(card: &[u8], j: usize) {
+    print_place(card, j);
+    print_body(card, j);
     print_value(card, j, -128);
     print_value(card, j, -1);
     print_value(card, j, 100);
@@ -151,8 +152,9 @@ fn print_cards(file: &[u8]) {
         if file.len() < end {
             return;
         }
-        print_card(&file[from..to]);
-        print_queries(&file[from..to], &file[to..end]);
+        let card = &file[from..to];
+        print_card(card);
+        print_queries(card, &file[to..end]);
         at = end;
     }
 }

@@ -41,14 +41,14 @@ add-end c = omega arith
 returns : tie.Need-returns Inv-loop μ-loop
 returns c = tt
 
-sub-print-card : tie.Need-sub-print-card Inv-loop μ-loop
-sub-print-card c = omega arith
+sub-card : tie.Need-sub-card Inv-loop μ-loop
+sub-card c = omega arith
 
-part-print-card-start : tie.Need-part-print-card-start Inv-loop μ-loop
-part-print-card-start c = omega arith
+part-card-start : tie.Need-part-card-start Inv-loop μ-loop
+part-card-start c = omega arith
 
-part-print-card-end : tie.Need-part-print-card-end Inv-loop μ-loop
-part-print-card-end c = omega arith
+part-card-end : tie.Need-part-card-end Inv-loop μ-loop
+part-card-end c = omega arith
 
 print-card-requires : tie.Need-print-card-requires Inv-loop μ-loop
 print-card-requires c κs = tt
@@ -61,15 +61,6 @@ part-print-queries-start c = omega arith
 
 part-print-queries-end : tie.Need-part-print-queries-end Inv-loop μ-loop
 part-print-queries-end c = omega arith
-
-sub-print-queries-2 : tie.Need-sub-print-queries-2 Inv-loop μ-loop
-sub-print-queries-2 c = omega arith
-
-part-print-queries-start-2 : tie.Need-part-print-queries-start-2 Inv-loop μ-loop
-part-print-queries-start-2 c = omega arith
-
-part-print-queries-end-2 : tie.Need-part-print-queries-end-2 Inv-loop μ-loop
-part-print-queries-end-2 c = omega arith
 
 print-queries-requires : tie.Need-print-queries-requires Inv-loop μ-loop
 print-queries-requires c κs = tt
@@ -99,16 +90,13 @@ print-cards-spec =
     mul-end
     add-end
     returns
-    sub-print-card
-    part-print-card-start
-    part-print-card-end
+    sub-card
+    part-card-start
+    part-card-end
     print-card-requires
     sub-print-queries
     part-print-queries-start
     part-print-queries-end
-    sub-print-queries-2
-    part-print-queries-start-2
-    part-print-queries-end-2
     print-queries-requires
     loop-less
     loop-again
