@@ -2,14 +2,13 @@
 -- is negative. Assumes nothing.
 --
 --   signAt l o     == the sign at a point by its bit l among the points left and its bit o among the odd ones
---   Kept P a j left odd == after the first j polynomials of the opened card P these two words give the sign of the product a at each of its points
+--   Kept P a rest j left odd == at each point of the opened card P the sign that these two words give, times the sign of the product `rest` of its first j
+--                     polynomials, is the sign of the product a
 use mathlib.Core.Path.{_≡_, refl, sym, ap, ap₂, subst, _∙_}
 use mathlib.Core.Bool.{Bool, true, false, cond}
-use mathlib.Core.Logic.{⊎-elim}
 use Prim.Native.Nat.{ℕ, zero, suc, _+_, _*_, _-_, _/_, _%_, _^_, _<_, _≤_, min, max}
 use native.Mathlib.Omega.{arith}
-use native.Mathlib.Nat.{pow-suc, one-mul, pow-succ', one-le-pow, pow-le-pow-right, mod-lt, mod-eq-of-lt, div-eq-of-lt, div-lt-iff-lt-mul, div-div-eq-div-mul}
-use lib.Arith.{digits-div, digits-mod, mod-mul}
+use native.Mathlib.Nat.{pow-suc, one-le-pow, div-lt-iff-lt-mul, div-add-mod'}
 use lib.Bits.{bitAnd, bitOr, bitXor, differ, and-le-l}
 use lib.Count.{ones}
 use lib.Dec.{eqb}
@@ -18,10 +17,9 @@ use lib.ListN.{getD}
 use lib.Pow.{ones-lt}
 use Rattle.integers.specs.Sums.{sumTo}
 use Rattle.integers.proofs.Diff.{one-*ℤ}
+use Rattle.integers.proofs.Ring.{*ℤ-assoc, *ℤ-left-comm, *ℤ-1}
 use Rattle.integers.proofs.Parts.{int, sum, dif}
 use Rattle.integers.proofs.Sums.{sumTo-ext}
-use Rattle.integers.proofs.Tests.{eq-cases}
-use Rattle.layout.proofs.Twos.{below-or}
 use Rattle.signs.specs.Lists.{total}
 use Rattle.signs.specs.Signs.{signOf, power, sign}
 use Rattle.signs.proofs.Digits.{top, low}
@@ -121,83 +119,58 @@ column-below P (suc s) k =
     go (suc (suc zero)) h b = omega (arith, pow-suc 3 s)
     go (suc (suc (suc d))) h b = absurd (omega arith)
 
--- one digit more of a product, from the bottom
-module _ (a j : ℕ) where
-  three : 0 < 3 ^ j
-  three = one-le-pow j 3 (omega arith)
-
-  cut : a % 3 ^ suc j ≡ (a / 3 ^ j % 3) * 3 ^ j + a % 3 ^ j
-  cut = rw (pow-succ' 3 j) (mod-mul a {m = 3} {c = 3 ^ j} (omega arith) three)
-
-  digit-next : a % 3 ^ suc j / 3 ^ j ≡ a / 3 ^ j % 3
-  digit-next = rw cut (digits-div (a / 3 ^ j % 3) (mod-lt a three))
-
-  digits-left : a % 3 ^ suc j % 3 ^ j ≡ a % 3 ^ j
-  digits-left = rw cut (digits-mod (a / 3 ^ j % 3) (mod-lt a three))
-
-  pub digits-next : a / 3 ^ j / 3 ≡ a / 3 ^ suc j
-  digits-next = div-div-eq-div-mul a (3 ^ j) 3 ∙ ap (λ (x : ℕ). a / x) (sym (pow-suc 3 j))
-
-  -- where a digit is left, it is one of the s digits
-  pub digit-below : (s : ℕ) → a < 3 ^ s → 0 < a / 3 ^ j → j < s
-  digit-below s h g = ⊎-elim (λ w. w) (λ w. absurd (past w)) (below-or j s)
-    where
-      past : s ≤ j → ⊥
-      past w = omega (arith, div-eq-of-lt {n = a} {m = 3 ^ j} (omega (arith, pow-le-pow-right {n = 3} (omega arith) {i = s} {j = j} w)))
-
 -- ---- the two words on their way
 
-pub record Kept (P : Opened) (a j left odd : ℕ) : Type 0 where
+pub record Kept (P : Opened) (a rest j left odd : ℕ) : Type 0 where
   pub small : left < 2 ^ P .n
-  pub at : (k : ℕ) → k < P .n → signAt (bitAt left k) (bitAt odd k) ≡ sign j (a % 3 ^ j) (columnTo P j k)
+  pub at : (k : ℕ) → k < P .n → signAt (bitAt left k) (bitAt odd k) *ℤ sign j rest (columnTo P j k) ≡ sign (P .s) a (columnTo P (P .s) k)
 
 module _ (P : Opened) (a : ℕ) where
-  pub kept-none : Kept P a 0 (2 ^ P .n - 1) 0
-  unfolding sign
-  kept-none = record { small = ones-lt (P .n); at = λ k h. rw (bit-first (P .n) k h, bit-none k) refl }
+  pub kept-none : Kept P a a (P .s) (2 ^ P .n - 1) 0
+  kept-none = record { small = ones-lt (P .n); at = λ k h. rw (bit-first (P .n) k h, bit-none k) (one-*ℤ (sign (P .s) a (columnTo P (P .s) k))) }
 
-  module _ (j d left odd : ℕ) where
-    kept-sign : (k : ℕ) → d ≡ a / 3 ^ j % 3 → signAt (bitAt left k) (bitAt odd k) ≡ sign j (a % 3 ^ j) (columnTo P j k) →
+  module _ (rest j left odd : ℕ) (fits : rest < 3 ^ suc j) where
+    kept-sign : (k : ℕ) →
         let p = getD (P .positive) j 0 in
         let n = getD (P .negative) j 0 in
-        signAt (bitAt (cond (eqb d 0) left (bitAnd left (bitOr p n))) k) (bitAt (cond (eqb d 1) (bitXor odd n) odd) k) ≡ sign (suc j) (a % 3 ^ suc j) (columnTo P (suc j) k)
+        let d = rest / 3 ^ j in
+        signAt (bitAt (cond (eqb d 0) left (bitAnd left (bitOr p n))) k) (bitAt (cond (eqb d 1) (bitXor odd n) odd) k) *ℤ sign j (rest % 3 ^ j) (columnTo P j k)
+        ≡ signAt (bitAt left k) (bitAt odd k) *ℤ sign (suc j) rest (columnTo P (suc j) k)
     unfolding sign columnTo
-    kept-sign k e h =
+    kept-sign k =
         let p = getD (P .positive) j 0 in
         let n = getD (P .negative) j 0 in
+        let d = rest / 3 ^ j in
         let q = digitBy (bitAt p k) (bitAt n k) in
         let b = column-below P j k in
-        let l : d < 3 = omega (arith, mod-lt (a / 3 ^ j) {m = 3} (omega arith)) in
-        ap₂ signAt (left-bit (eqb d 0) left p n k) (odd-bit (eqb d 1) odd n k)
-        ∙ factor d (bitAt p k) (bitAt n k) (bitAt left k) (bitAt odd k) l (bit-small p k) (bit-small n k) (bit-small left k) (bit-small odd k)
-        ∙ ap₂ (λ (x : ℕ) (y : ℤ). power (signOf q) x *ℤ y) (e ∙ sym (digit-next a j)) (h ∙ ap (λ (x : ℕ). sign j x (columnTo P j k)) (sym (digits-left a j)))
-        ∙ sym (rw (top j q b, low j q b) refl)
+        let x = signAt (bitAt left k) (bitAt odd k) in
+        let y = power (signOf q) d in
+        let z = sign j (rest % 3 ^ j) (columnTo P j k) in
+        let l : d < 3 = div-lt-iff-lt-mul {k = 3 ^ j} {x = rest} {y = 3} (one-le-pow j 3 (omega arith)) .1 (omega (arith, pow-suc 3 j)) in
+        ap (λ (w : ℤ). w *ℤ z) (ap₂ signAt (left-bit (eqb d 0) left p n k) (odd-bit (eqb d 1) odd n k)
+        ∙ factor d (bitAt p k) (bitAt n k) (bitAt left k) (bitAt odd k) l (bit-small p k) (bit-small n k) (bit-small left k) (bit-small odd k))
+        ∙ *ℤ-assoc y x z
+        ∙ *ℤ-left-comm y x z
+        ∙ ap (_*ℤ_ x) (sym (rw (top j q b, low j q b) refl))
 
-    pub kept-next : d ≡ a / 3 ^ j % 3 → Kept P a j left odd →
+    pub kept-next : Kept P a rest (suc j) left odd →
         let p = getD (P .positive) j 0 in
         let n = getD (P .negative) j 0 in
-        Kept P a (suc j) (cond (eqb d 0) left (bitAnd left (bitOr p n))) (cond (eqb d 1) (bitXor odd n) odd)
-    kept-next e m =
+        let d = rest / 3 ^ j in
+        Kept P a (rest % 3 ^ j) j (cond (eqb d 0) left (bitAnd left (bitOr p n))) (cond (eqb d 1) (bitXor odd n) odd)
+    kept-next m =
         record {
-          small = omega (arith, left-less (eqb d 0) left (bitOr (getD (P .positive) j 0) (getD (P .negative) j 0)), m .small);
-          at = λ k h. kept-sign k e (m .at k h);
+          small = omega (arith, left-less (eqb (rest / 3 ^ j) 0) left (bitOr (getD (P .positive) j 0) (getD (P .negative) j 0)), m .small);
+          at = λ k h. kept-sign k ∙ m .at k h;
         }
 
-  -- digits above the last that is not 0 change no sign
-  more : (j k s : ℕ) → a < 3 ^ j → j ≤ s → sign s a (columnTo P s k) ≡ sign j a (columnTo P j k)
-  unfolding sign columnTo power
-  more j k zero b h = let e : 0 ≡ j = omega arith in subst (λ (i : ℕ). sign 0 a (columnTo P 0 k) ≡ sign i a (columnTo P i k)) e refl
-  more j k (suc s) b h = ⊎-elim (λ w. same (w .0)) (λ w. next (omega (arith, w .0)) (more j k s b)) (eq-cases j (suc s))
-    where
-      same : j ≡ suc s → sign (suc s) a (columnTo P (suc s) k) ≡ sign j a (columnTo P j k)
-      same e = subst (λ (i : ℕ). sign (suc s) a (columnTo P (suc s) k) ≡ sign i a (columnTo P i k)) (sym e) refl
-
-      next : j ≤ s → (j ≤ s → sign s a (columnTo P s k) ≡ sign j a (columnTo P j k)) → sign (suc s) a (columnTo P (suc s) k) ≡ sign j a (columnTo P j k)
-      next g ih =
-          let q = digitBy (bitAt (getD (P .positive) s 0) k) (bitAt (getD (P .negative) s 0) k) in
-          let c = column-below P s k in
-          let l : a < 3 ^ s = omega (arith, pow-le-pow-right {n = 3} (omega arith) {i = j} {j = s} g) in
-          rw (div-eq-of-lt l, mod-eq-of-lt l, low s q c) (one-*ℤ (sign s a (columnTo P s k)) ∙ ih g)
+  -- the same of the numbers that the code has
+  pub kept-off : (i j rest w d left odd left′ odd′ : ℕ) → j ≡ suc i → rest < 3 ^ j → w ≡ 3 ^ i → d ≡ rest / w →
+      left′ ≡ cond (eqb d 0) left (bitAnd left (bitOr (getD (P .positive) i 0) (getD (P .negative) i 0))) → odd′ ≡ cond (eqb d 1) (bitXor odd (getD (P .negative) i 0)) odd
+      → Kept P a rest j left odd → Kept P a (rest - d * w) i left′ odd′
+  kept-off i j rest w d left odd left′ odd′ ej fits ew ed el eo m =
+      let o : rest - rest / 3 ^ i * 3 ^ i ≡ rest % 3 ^ i = omega (arith, div-add-mod' rest (3 ^ i)) in
+      rw (el, eo, ed, ew, o) (kept-next rest i left odd (rw (← ej) fits) (subst (λ (x : ℕ). Kept P a rest x left odd) ej m))
 
 -- ---- the number of points left, less twice that of the odd ones among them
 
@@ -225,12 +198,7 @@ module _ (l o : ℕ) where
   counted n h = rw (ones-bits n l h, ones-bits n (bitAnd l o) (omega (arith, and-le-l l o))) (tally n)
 
 -- the law: the words give the sum
-pub summed-words : (P : Opened) (a j left odd : ℕ) → Kept P a j left odd → j ≤ P .s → a / 3 ^ j ≡ 0
-    → pos (ones left) -ℤ pos (2 * ones (bitAnd left odd)) ≡ summed P a
-unfolding summed
-summed-words P a j left odd m h e =
-    counted left odd (P .n) (m .small)
-    ∙ sumTo-ext _ _ (P .n) (λ k g. m .at k g ∙ ap (λ (x : ℕ). sign j x (columnTo P j k)) (mod-eq-of-lt b) ∙ sym (more P a j k (P .s) b h))
-  where
-    b : a < 3 ^ j
-    b = rw one-mul at (div-lt-iff-lt-mul {k = 3 ^ j} {x = a} {y = 1} (three a j) .0 (omega arith))
+pub summed-words : (P : Opened) (a rest j left odd : ℕ) → Kept P a rest j left odd → j ≡ 0 → pos (ones left) -ℤ pos (2 * ones (bitAnd left odd)) ≡ summed P a
+unfolding summed sign
+summed-words P a rest zero left odd m e = counted left odd (P .n) (m .small) ∙ sumTo-ext _ _ (P .n) (λ k g. sym (*ℤ-1 (signAt (bitAt left k) (bitAt odd k))) ∙ m .at k g)
+summed-words P a rest (suc j) left odd m e = absurd (omega arith)

@@ -17,6 +17,7 @@ use card::Card;
 use card::numbers;
 use layout::values;
 use signs::Product;
+use signs::digit;
 use signs::power;
 
 // The numbers that refuse (document 01, "Cause, and what the caller gets"): those of `card`, as wide as a run's, and that of a product.
@@ -32,9 +33,6 @@ pub const PRODUCT: u16 = 13; // the product number is above 3^s − 1
 const MOST_POLYNOMIALS: usize = numbers::MOST_POLYNOMIALS as usize;
 
 const MOST_POINTS: usize = numbers::MOST_POINTS as usize;
-
-// A product number has a digit for each polynomial, its power: 0, 1 or 2.
-const DIGITS: u16 = 3;
 
 // Every bit of a word.
 const EVERY: u64 = 0xffff_ffff_ffff_ffff;
@@ -162,7 +160,7 @@ fn balance(left: u64, odd: u64) -> i64
     u64::count_ones(left) as i64 - (2 * u64::count_ones(left & odd)) as i64
 }
 
-// The sum of the signs of the product a over the points of an opened card: all points at once, polynomial by polynomial, the first one first.
+// The sum of the signs of the product a over the points of an opened card: all points at once, polynomial by polynomial, the last one first.
 fn sum(card: Opened, a: u16) -> i64
     requires { ⌜ (card .s ≤ 8) × (card .n ≤ 64) × (a < 3 ^ card .s) ⌝ }
     ensures { λ r. ⌜ r ≡ summed card a ⌝ }
@@ -170,13 +168,14 @@ fn sum(card: Opened, a: u16) -> i64
     let mut left = first(card.n);
     let mut odd: u64 = 0;
     let mut rest = a;
-    let mut j = 0;
-    while 0 < rest {
-        let d = rest % DIGITS;
+    let mut j = card.s;
+    while 0 < j {
+        j -= 1;
+        let w = power(j);
+        let d = digit(rest, w);
         left = left_by(d, left, card.positive[j], card.negative[j]);
         odd = odd_by(d, odd, card.negative[j]);
-        rest = rest / DIGITS;
-        j += 1;
+        rest -= d * w;
     }
     balance(left, odd)
 }

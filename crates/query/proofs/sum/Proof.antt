@@ -1,72 +1,94 @@
--- `query::sum` meets its contract: after j polynomials the two words have their signs. Assumes nothing.
-use mathlib.Core.Path.{_≡_, sym, ap, _∙_}
-use Prim.Native.Nat.{ℕ, _/_, _%_, _^_, _≤_, _<_}
+-- `query::sum` meets its contract: the digits passed are in the two words, those left below. Assumes nothing.
+use mathlib.Core.Path.{_≡_, _∙_}
+use Prim.Native.Nat.{ℕ, suc, _-_, _+_, _*_, _%_, _^_, _≤_, _<_}
 use native.Mathlib.Omega.{arith}
-use native.Mathlib.Numerals.{add-one}
+use native.Mathlib.Nat.{one-le-pow, pow-suc, pow-le-pow-right, div-add-mod', mod-lt}
 use borrow.Author.Needs.{needs, sfits-of}
 use mir.Facts.{toZ-ofZ}
-use Rattle.query.proofs.Counting.{Kept, kept-none, kept-next, summed-words, digit-below, digits-next}
+use Rattle.query.proofs.Counting.{Kept, kept-none, kept-off, summed-words}
 use Rattle.query.proofs.sum.Statement.{statement}
 use Rattle.query.proofs.sum.Tie as tie
 
 abbrev Inv-loop : tie.InvT-loop
-Inv-loop a card left₀ odd₀ rest₀ j₀ left odd rest j = (rest ≡ a / 3 ^ j) × (j ≤ card .s) × Kept card a j left odd
+Inv-loop a card left₀ odd₀ rest₀ j₀ left odd rest j = (j ≤ card .s) × (rest < 3 ^ j) × Kept card a rest j left odd
 
 abbrev μ-loop : tie.MeasureT-loop
-μ-loop a card left₀ odd₀ rest₀ j₀ left odd rest j = rest
+μ-loop a card left₀ odd₀ rest₀ j₀ left odd rest j = j
 
--- a polynomial is there, and it is one of eight
-below : (c : tie.In-loop Inv-loop μ-loop) → (c .before .loop .j < c .before .before .before .args .t1 .s) × (c .before .loop .j < 8)
-below c =
-    let s = c .before .before .before in
+-- the polynomial is one of eight
+eight : (c : tie.In-loop Inv-loop μ-loop) → c .before .loop .j - 1 < 8
+eight c = omega (arith, c .before .before .before .pre .0, c .before .loop .inv .0)
+
+-- what is left is below three times the next weight
+three-times : (c : tie.In-loop Inv-loop μ-loop) → c .before .loop .rest < 3 * 3 ^ (c .before .loop .j - 1)
+three-times c =
     let l = c .before .loop in
-    let g : l .j < s .args .t1 .s = digit-below (s .args .a) (l .j) (s .args .t1 .s) (s .pre .2) (omega arith) in
-    (g, omega arith)
+    let e : l .j ≡ suc (l .j - 1) = omega arith in
+    let h : l .rest < 3 ^ suc (l .j - 1) = rw (← e) (l .inv .1) in
+    omega (arith, pow-suc 3 (l .j - 1))
+
+-- the digit's share, and what stays
+taken-off : (c : tie.After-odd-by Inv-loop μ-loop) → c .before .before .before .before .before .digit .result * c .before .before .before .before .before .before .power .result
+    + c .before .before .before .before .before .before .before .before .loop .rest % 3 ^ (c .before .before .before .before .before .before .before .before .loop .j - 1) ≡ c .before .before .before .before .before .before .before .before .loop .rest
+taken-off c = rw (c .before .before .before .before .before .digit .ensures, c .before .before .before .before .before .before .power .ensures) (div-add-mod' (c .before .before .before .before .before .before .before .before .loop .rest) (3 ^ (c .before .before .before .before .before .before .before .before .loop .j - 1)))
 
 first-requires : tie.Need-first-requires Inv-loop μ-loop
 first-requires c κs = search needs
 
 loop-holds : tie.Need-loop-holds Inv-loop μ-loop
-loop-holds c = (omega arith, omega arith, rw (c .first .ensures) (kept-none (c .before .args .t1) (c .before .args .a)))
+loop-holds c = (omega arith, c .before .pre .2, rw (c .first .ensures) (kept-none (c .before .args .t1) (c .before .args .a)))
+
+sub-j : tie.Need-sub-j Inv-loop μ-loop
+sub-j c = search needs
+
+power-requires : tie.Need-power-requires Inv-loop μ-loop
+power-requires c κs = omega (arith, eight c)
+
+digit-requires : tie.Need-digit-requires Inv-loop μ-loop
+digit-requires c κs = omega (arith, c .power .ensures, three-times (c .before))
 
 mul-left-by : tie.Need-mul-left-by Inv-loop μ-loop
-mul-left-by c = let b = below c in search needs
+mul-left-by c = let b = eight (c .before .before) in search needs
 
 element-copy-out-left-by : tie.Need-element-copy-out-left-by Inv-loop μ-loop
-element-copy-out-left-by c = let b = below c in search needs
+element-copy-out-left-by c = let b = eight (c .before .before) in search needs
 
 mul-left-by-2 : tie.Need-mul-left-by-2 Inv-loop μ-loop
-mul-left-by-2 c = let b = below (c .before) in search needs
+mul-left-by-2 c = let b = eight (c .before .before .before) in search needs
 
 element-copy-out-left-by-2 : tie.Need-element-copy-out-left-by-2 Inv-loop μ-loop
-element-copy-out-left-by-2 c = let b = below (c .before) in search needs
+element-copy-out-left-by-2 c = let b = eight (c .before .before .before) in search needs
 
 left-by-requires : tie.Need-left-by-requires Inv-loop μ-loop
 left-by-requires c κs = tt
 
 mul-odd-by : tie.Need-mul-odd-by Inv-loop μ-loop
-mul-odd-by c = let b = below (c .before .before .before) in search needs
+mul-odd-by c = let b = eight (c .before .before .before .before .before) in search needs
 
 element-copy-out-odd-by : tie.Need-element-copy-out-odd-by Inv-loop μ-loop
-element-copy-out-odd-by c = let b = below (c .before .before .before) in search needs
+element-copy-out-odd-by c = let b = eight (c .before .before .before .before .before) in search needs
 
 odd-by-requires : tie.Need-odd-by-requires Inv-loop μ-loop
 odd-by-requires c κs = tt
 
-add-j : tie.Need-add-j Inv-loop μ-loop
-add-j c = let b = below (c .before .before .before .before .before) in search needs
+mul-rest : tie.Need-mul-rest Inv-loop μ-loop
+mul-rest c =
+    let l = c .before .before .before .before .before .before .before .before .loop in
+    omega (arith, taken-off c, pow-le-pow-right {n = 3} (omega arith) {i = l .j} {j = 8} (omega (arith, l .inv .0, c .before .before .before .before .before .before .before .before .before .before .pre .0)), l .inv .1)
+
+sub-rest : tie.Need-sub-rest Inv-loop μ-loop
+sub-rest c = omega (arith, taken-off c)
 
 loop-less : tie.Need-loop-less Inv-loop μ-loop
 loop-less c = search needs
 
 loop-again : tie.Need-loop-again Inv-loop μ-loop
 loop-again c =
-    let s = c .before .before .before .before .before .before .before .before in
-    let l = c .before .before .before .before .before .before .loop in
-    let b = below (c .before .before .before .before .before) in (
-      rw (l .inv .0, add-one (l .j)) (digits-next (s .args .a) (l .j)),
+    let s = c .before .before .before .before .before .before .before .before .before .before in
+    let l = c .before .before .before .before .before .before .before .before .loop in (
       omega arith,
-      rw (add-one (l .j), c .before .before .left-by .ensures, c .odd-by .ensures) (kept-next (s .args .t1) (s .args .a) (l .j) _ (l .left) (l .odd) (ap (λ (x : ℕ). x % 3) (l .inv .0)) (l .inv .2)),
+      omega (arith, taken-off c, mod-lt (l .rest) {m = 3 ^ (l .j - 1)} (one-le-pow (l .j - 1) 3 (omega arith))),
+      kept-off (s .args .t1) (s .args .a) (l .j - 1) (l .j) (l .rest) _ _ (l .left) (l .odd) _ _ (omega arith) (l .inv .1) (c .before .before .before .before .before .before .power .ensures) (c .before .before .before .before .before .digit .ensures) (c .before .before .left-by .ensures) (c .odd-by .ensures) (l .inv .2),
     )
 
 balance-requires : tie.Need-balance-requires Inv-loop μ-loop
@@ -76,7 +98,7 @@ returns : tie.Need-returns Inv-loop μ-loop
 returns c =
     let s = c .before .before .before .before in
     let l = c .before .before .loop in
-    toZ-ofZ (sfits-of (c .balance .ok)) ∙ c .balance .ensures ∙ summed-words (s .args .t1) (s .args .a) (l .j) (l .left) (l .odd) (l .inv .2) (l .inv .1) (sym (l .inv .0) ∙ omega arith)
+    toZ-ofZ (sfits-of (c .balance .ok)) ∙ c .balance .ensures ∙ summed-words (s .args .t1) (s .args .a) (l .rest) (l .j) (l .left) (l .odd) (l .inv .2) (omega arith)
 
 pub sum-spec : {M : Type 1} → statement M
 sum-spec =
@@ -86,6 +108,9 @@ sum-spec =
     μ-loop
     first-requires
     loop-holds
+    sub-j
+    power-requires
+    digit-requires
     mul-left-by
     element-copy-out-left-by
     mul-left-by-2
@@ -94,7 +119,8 @@ sum-spec =
     mul-odd-by
     element-copy-out-odd-by
     odd-by-requires
-    add-j
+    mul-rest
+    sub-rest
     loop-less
     loop-again
     balance-requires
