@@ -14,19 +14,20 @@ use Rattle.signs.specs.Lists.{Below}
 use Rattle.signs.specs.Adapted.{adapted}
 use Rattle.signs.proofs.Blocks.{adapted-below}
 use Rattle.rounds.specs.Rows.{Row, patterns, counts, rowsWith}
-use Rattle.rounds.specs.RoundEnd.{roundRows, Left}
-use Rattle.rounds.specs.declared.Next.{Next}
+use Rattle.rounds.specs.RoundEnd.{roundRows}
+use Rattle.round_end.specs.Outcome.{Left}
+use Rattle.round_end.specs.declared.Next.{Next}
 use Rattle.rounds.proofs.RowLaws.{length-patterns}
-use Rattle.determination.specs.Run.{State, Step, ask, refused, late, productAt, ended, goOn, answerOf}
+use Rattle.runs.specs.Run.{State, Step, ask, refused, late, productAt, ended, goOn, answerOf}
 use Rattle.determination.specs.Record.{isSound, runningState, stateOf, heldRows}
 use Rattle.determination.specs.declared.Run.{Run}
 use Rattle.determination.specs.declared.Rows.{Rows}
 use Rattle.determination.specs.declared.Phase.the-variants.{Running, Done}
-use Rattle.determination.proofs.Held.{with-patterns, with-own, below-all}
+use Rattle.runs.proofs.Held.{with-patterns, with-own, below-all}
 use Rattle.determination.proofs.Lengths.{Lengths}
 use Rattle.determination.proofs.Records.{sound-later, sound-below, sound-to, limits-to, running-is, done-is, not-done-is}
-use Rattle.determination.proofs.Steps.{answer-finished, answer-closed}
-use Rattle.rounds.specs.declared.Next.the-variants as next
+use Rattle.runs.proofs.Steps.{answer-finished, answer-closed}
+use Rattle.round_end.specs.declared.Next.the-variants as next
 
 -- ---- the round goes on
 

@@ -8,12 +8,12 @@ use borrow.Author.Tests.{lt-ltb, le-ltb, le-leb, lt-leb}
 use lib.ListN.{length, getD, take, drop}
 use lib.Seq.{length-take-le, getD-take}
 use Rattle.rounds.specs.Rows.{Row, rowsWith}
-use Rattle.determination.specs.Run.{Phase as Stage, running, finished, closed, row, no-row, copied, kept, fetchOf, fetchRule, copyOf, copyRule, late, past-last, too-short}
+use Rattle.runs.specs.Run.{Phase as Stage, running, finished, closed, row, no-row, copied, kept, fetchOf, fetchRule, copyOf, copyRule, late, past-last, too-short}
 use Rattle.determination.specs.Record.{isSound, doneIn, isDone, runningState, doneState, closedState, stateIn, stateOf}
 use Rattle.determination.specs.declared.Run.{Run}
 use Rattle.determination.specs.declared.Phase.{Phase}
 use Rattle.determination.specs.declared.Phase.the-variants.{Running, Done, Closed}
-use Rattle.determination.proofs.Held.{with-length, with-at, with-map-pattern, with-map-count}
+use Rattle.runs.proofs.Held.{with-length, with-at, with-map-pattern, with-map-count}
 use Rattle.determination.proofs.Records.{done-is, done-phase}
 
 total-in : (f : Phase) (r : Run) → r .asked ≡ stateIn f r .total

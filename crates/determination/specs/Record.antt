@@ -20,7 +20,7 @@ use lib.IntN.{ℤ}
 use lib.ListN.{take}
 use Rattle.signs.specs.Lists.{isBelow}
 use Rattle.rounds.specs.Rows.{maxPoints, maxPolynomials, Row, rowsWith}
-use Rattle.determination.specs.Run.{State, running, finished, closed, Step, ask, done, refused, Fetch, row, no-row, Copied, copied, not-copied, late, startOf}
+use Rattle.runs.specs.Run.{State, running, finished, closed, Step, ask, done, refused, Fetch, row, no-row, Copied, copied, not-copied, late, startOf}
 use Rattle.determination.specs.declared.Run.{Run}
 use Rattle.determination.specs.declared.Answered.{Answered}
 use Rattle.determination.specs.declared.Rows.{Rows}

@@ -5,10 +5,10 @@ use borrow.Author.Needs.{needs}
 use mir.Syntax.{w64}
 use mir.ValLaws.{toZ-ofZ}
 use Rattle.rounds.specs.RoundEnd.{roundRows}
-use Rattle.determination.specs.Run.{State, Step}
+use Rattle.runs.specs.Run.{State, Step}
 use Rattle.determination.specs.Record.{isSound, runningState, stateOf}
 use Rattle.determination.proofs.Records.{running-is, unsound-is, closed-is}
-use Rattle.determination.proofs.Steps.{answer-closed, not-late}
+use Rattle.runs.proofs.Steps.{answer-closed, not-late}
 use Rattle.determination.proofs.Rounds.{late-done}
 use Rattle.determination.proofs.answer.Statement.{statement}
 use Rattle.determination.proofs.answer.Tie as tie

@@ -10,11 +10,12 @@ use lib.Seq.{length-take-le}
 use mir.Syntax.{w64}
 use mir.ValLaws.{toZ-ofZ}
 use Rattle.signs.specs.Lists.{Below}
-use Rattle.rounds.specs.RoundEnd.{roundRows, Left}
+use Rattle.rounds.specs.RoundEnd.{roundRows}
+use Rattle.round_end.specs.Outcome.{Left}
 use Rattle.rounds.specs.Rows.{Row, patterns}
 use Rattle.determination.specs.Record.{runningState}
-use Rattle.determination.proofs.Ends.{ends-rising, ends-below, ends-some}
-use Rattle.determination.proofs.Held.{with-length}
+use Rattle.runs.proofs.Ends.{ends-rising, ends-below, ends-some}
+use Rattle.runs.proofs.Held.{with-length}
 use Rattle.determination.proofs.Lengths.{lengths}
 use Rattle.determination.proofs.Records.{sound-later, sound-asked}
 use Rattle.determination.proofs.Rounds.{Some, left-none, left-some, some-few, some-held}

@@ -11,9 +11,9 @@ use mir.ValLaws.{toZ-ofZ}
 use Rattle.integers.proofs.Parts.{int}
 use Rattle.rounds.specs.RoundEnd.{roundRows}
 use Rattle.determination.specs.Record.{runningState}
-use Rattle.determination.proofs.Held.{rising-one, below-one}
+use Rattle.runs.proofs.Held.{rising-one, below-one}
 use Rattle.determination.proofs.Records.{sound-limits, sound-asked}
-use Rattle.determination.proofs.Steps.{first-below, first-above, first-some}
+use Rattle.runs.proofs.Steps.{first-below, first-above, first-some}
 use Rattle.determination.proofs.first.Statement.{statement}
 use Rattle.determination.proofs.first.Tie as tie
 

@@ -11,7 +11,7 @@ use Rattle.determination.specs.Record.{runningState}
 use Rattle.determination.proofs.Lengths.{lengths}
 use Rattle.determination.proofs.Records.{sound-later}
 use Rattle.determination.proofs.Rounds.{stored-length}
-use Rattle.determination.proofs.Steps.{later-out, later-on, later-end}
+use Rattle.runs.proofs.Steps.{later-out, later-on, later-end}
 use Rattle.determination.proofs.later.Statement.{statement}
 use Rattle.determination.proofs.later.Tie as tie
 

@@ -7,7 +7,7 @@ use borrow.Author.Needs.{needs}
 use lib.ListN.{length}
 use Rattle.signs.proofs.Positions.{below-at}
 use Rattle.rounds.proofs.Restrict.{three-mono}
-use Rattle.determination.specs.Run.{productAt}
+use Rattle.runs.specs.Run.{productAt}
 use Rattle.determination.proofs.product_at.Statement.{statement}
 use Rattle.determination.proofs.product_at.Tie as tie
 

@@ -8,7 +8,7 @@ use Rattle.signs.proofs.Size.{as-many}
 use Rattle.signs.specs.Adapted.{adapted}
 use Rattle.adapted.proofs.Stores.{take-sets}
 use Rattle.rounds.proofs.Restrict.{three-mono}
-use Rattle.determination.proofs.Held.{shift-none}
+use Rattle.runs.proofs.Held.{shift-none}
 use Rattle.determination.proofs.products_of.Statement.{statement}
 use Rattle.determination.proofs.products_of.Tie as tie
 

@@ -7,7 +7,7 @@ use borrow.Author.Tests.{le-leb, lt-leb}
 use lib.ListN.{take}
 use Rattle.rounds.specs.Rows.{rowsWith}
 use Rattle.determination.specs.Record.{runningState, startedOf}
-use Rattle.determination.specs.Run.{State, Step, ask, startOf}
+use Rattle.runs.specs.Run.{State, Step, ask, startOf}
 use Rattle.determination.specs.declared.Run.{Run}
 use Rattle.determination.proofs.Records.{first-sound, running-is, closed-is}
 use Rattle.determination.proofs.start.Statement.{statement}

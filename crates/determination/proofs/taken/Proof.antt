@@ -6,7 +6,7 @@ use mir.Syntax.{w64}
 use mir.ValLaws.{toZ-ofZ}
 use Rattle.rounds.specs.RoundEnd.{roundRows}
 use Rattle.determination.specs.Record.{runningState}
-use Rattle.determination.proofs.Steps.{answer-first, answer-later}
+use Rattle.runs.proofs.Steps.{answer-first, answer-later}
 use Rattle.determination.proofs.taken.Statement.{statement}
 use Rattle.determination.proofs.taken.Tie as tie
 

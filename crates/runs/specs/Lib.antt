@@ -1,0 +1,4 @@
+pub mod Run
+pub mod Demand
+pub mod Truthful
+pub mod Refusals
