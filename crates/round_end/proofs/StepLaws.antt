@@ -22,44 +22,6 @@ use Rattle.rounds.proofs.RowLaws.{patterns-append, length-patterns}
 use Rattle.rounds.proofs.Restrict.{three-mono}
 use Rattle.rounds.proofs.Moments.{fair-yes}
 
--- ---- lists of numbers
-
-below-next : (n : ℕ) (l : List ℕ) (k : ℕ) → k < length l → isBelow n (drop k l) ≡ ltb (getD l k 0) n && isBelow n (drop (suc k) l)
-unfolding isBelow
-below-next n l k h = rw (drop-cons l k 0 h) refl
-
-pub below-here : (n : ℕ) (l : List ℕ) (k : ℕ) → k < length l → getD l k 0 < n → isBelow n (drop k l) ≡ isBelow n (drop (k + 1) l)
-below-here n l k h b = rw (add-one k, below-next n l k h, lt-ltb (getD l k 0) n b) refl
-
-pub below-fails : (n : ℕ) (l : List ℕ) (k : ℕ) → k < length l → n ≤ getD l k 0 → isBelow n (drop k l) ≡ false
-below-fails n l k h b = rw (below-next n l k h, le-ltb (getD l k 0) n b) refl
-
-pub below-done : (n : ℕ) (l : List ℕ) (k : ℕ) → length l ≤ k → isBelow n (drop k l) ≡ true
-unfolding isBelow
-below-done n l k h = rw (drop-of-length-le l h) refl
-
-rising-next : (l : List ℕ) (k : ℕ) → k + 1 < length l
-    → isRising (drop k l) ≡ ltb (getD l k 0) (getD l (k + 1) 0) && isRising (drop (k + 1) l)
-unfolding isRising
-rising-next l k h =
-    let h₁ : k < length l = omega arith in
-    let h₂ : suc k < length l = omega arith in
-    rw (add-one k, drop-cons l k 0 h₁, drop-cons l (suc k) 0 h₂) refl
-
-pub rising-here : (l : List ℕ) (k : ℕ) → k + 1 < length l → getD l k 0 < getD l (k + 1) 0 → isRising (drop k l) ≡ isRising (drop (k + 1) l)
-rising-here l k h b = rw (rising-next l k h, lt-ltb (getD l k 0) (getD l (k + 1) 0) b) refl
-
-pub rising-fails : (l : List ℕ) (k : ℕ) → k + 1 < length l → getD l (k + 1) 0 ≤ getD l k 0 → isRising (drop k l) ≡ false
-rising-fails l k h b = rw (rising-next l k h, le-ltb (getD l k 0) (getD l (k + 1) 0) b) refl
-
-pub rising-done : (l : List ℕ) (k : ℕ) → length l ≤ k + 1 → isRising (drop k l) ≡ true
-unfolding isRising
-rising-done [] zero h = refl
-rising-done [] (suc k) h = refl
-rising-done (x ∷ []) zero h = refl
-rising-done (x ∷ y ∷ l) zero h = absurd (omega arith)
-rising-done (x ∷ l) (suc k) h = rising-done l k (omega arith)
-
 -- ---- counts
 
 -- the counts are above 0, and add up to at most m

@@ -16,6 +16,8 @@ ghost use Rattle.round_end.specs.Outcome.{Left, Ended};
 ghost use Rattle.round_end.specs.Steps.{withSign, signRows, properCounts, Solved as SolvedBy, judged};
 use integers::within;
 use signs::power;
+use solutions::below;
+use solutions::rising;
 use solver::Solved;
 use solver::solve;
 
@@ -29,34 +31,6 @@ pub enum Next {
 const MOST_POINTS: u16 = 64;
 
 // ---- the rows before
-
-// Whether each element is smaller than the one after it.
-fn rising(l: &[u16]) -> bool
-    ensures { λ r. ⌜ r ≡ isRising (now (l .entry)) ⌝ }
-{
-    let mut k = 0;
-    while k + 1 < l.len() {
-        if l[k + 1] <= l[k] {
-            return false;
-        }
-        k += 1;
-    }
-    true
-}
-
-// Whether each element is below a bound.
-fn below(l: &[u16], bound: u16) -> bool
-    ensures { λ r. ⌜ r ≡ isBelow bound (now (l .entry)) ⌝ }
-{
-    let mut k = 0;
-    while k < l.len() {
-        if bound <= l[k] {
-            return false;
-        }
-        k += 1;
-    }
-    true
-}
 
 // Whether the counts are above 0 and add up to at most 64.
 fn proper_counts(counts: &[u16]) -> bool

@@ -1,4 +1,4 @@
--- `determination::product_at` meets its contract. Assumes nothing.
+-- `run_parts::product_at` meets its contract. Assumes nothing.
 use mathlib.Core.Path.{refl}
 use Prim.Native.Nat.{_-_, _^_, _≤_}
 use native.Mathlib.Omega.{arith}
@@ -8,8 +8,8 @@ use lib.ListN.{length}
 use Rattle.signs.proofs.Positions.{below-at}
 use Rattle.rounds.proofs.Restrict.{three-mono}
 use Rattle.runs.specs.Run.{productAt}
-use Rattle.determination.proofs.product_at.Statement.{statement}
-use Rattle.determination.proofs.product_at.Tie as tie
+use Rattle.run_parts.proofs.product_at.Statement.{statement}
+use Rattle.run_parts.proofs.product_at.Tie as tie
 
 power-requires : tie.Need-power-requires
 power-requires c κs = search needs

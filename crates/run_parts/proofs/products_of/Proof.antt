@@ -1,4 +1,4 @@
--- `determination::products_of` meets its contract. Assumes nothing.
+-- `run_parts::products_of` meets its contract. Assumes nothing.
 use mathlib.Core.Path.{_≡_, sym}
 use Prim.Native.Nat.{_^_, _≤_}
 use native.Mathlib.Omega.{arith}
@@ -9,8 +9,8 @@ use Rattle.signs.specs.Adapted.{adapted}
 use Rattle.adapted.proofs.Stores.{take-sets}
 use Rattle.rounds.proofs.Restrict.{three-mono}
 use Rattle.runs.proofs.Held.{shift-none}
-use Rattle.determination.proofs.products_of.Statement.{statement}
-use Rattle.determination.proofs.products_of.Tie as tie
+use Rattle.run_parts.proofs.products_of.Statement.{statement}
+use Rattle.run_parts.proofs.products_of.Tie as tie
 
 slice-aggregate-adapted : tie.Need-slice-aggregate-adapted
 slice-aggregate-adapted c = search needs

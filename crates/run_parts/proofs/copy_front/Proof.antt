@@ -1,4 +1,4 @@
--- `determination::copy_front` meets its contract: what was passed is copied, the rest as it was. Assumes nothing.
+-- `run_parts::copy_front` meets its contract: what was passed is copied, the rest as it was. Assumes nothing.
 use mathlib.Core.List.{List, _++_, append-assoc}
 use mathlib.Core.Path.{_≡_, refl, _∙_}
 use Prim.Native.Nat.{_-_, ℕ, suc, _+_, _≤_, _<_}
@@ -7,8 +7,8 @@ use native.Mathlib.Omega.{arith}
 use borrow.Author.Needs.{needs}
 use lib.ListN.{length, getD, take, drop, set, length-append, length-drop}
 use lib.Seq.{length-take-le, take-length, take-suc, drop-cons, set-at}
-use Rattle.determination.proofs.copy_front.Statement.{statement}
-use Rattle.determination.proofs.copy_front.Tie as tie
+use Rattle.run_parts.proofs.copy_front.Statement.{statement}
+use Rattle.run_parts.proofs.copy_front.Tie as tie
 
 copied-length : (k : ℕ) (l o : List ℕ) → k ≤ length l → length l ≤ length o → length (take k l ++ drop k o) ≡ length o
 copied-length k l o h f = rw (length-append (take k l) (drop k o), length-take-le k l h, length-drop k o) (omega arith)

@@ -1,7 +1,7 @@
--- `determination::find_rows` meets its contract: the arrays are made, and lent to the call. Assumes nothing.
+-- `run_parts::rows_after` meets its contract: the arrays are made, and lent to the call. Assumes nothing.
 use borrow.Author.Needs.{needs}
-use Rattle.determination.proofs.find_rows.Statement.{statement}
-use Rattle.determination.proofs.find_rows.Tie as tie
+use Rattle.run_parts.proofs.rows_after.Statement.{statement}
+use Rattle.run_parts.proofs.rows_after.Tie as tie
 
 slice-aggregate-next-rows : tie.Need-slice-aggregate-next-rows
 slice-aggregate-next-rows c = search needs
@@ -17,7 +17,7 @@ next-rows-requires c κs =
 returns : tie.Need-returns
 returns c = (c .before .before .next-rows .ensures, c .before .before .next-rows .kept .1 .1 .1 .1 .0)
 
-pub find-rows-spec : {M : Type 1} → statement M
-find-rows-spec =
+pub rows-after-spec : {M : Type 1} → statement M
+rows-after-spec =
     tie.close
     (tie.spec slice-aggregate-next-rows slice-aggregate-next-rows-2 next-rows-requires returns)

@@ -1,12 +1,12 @@
--- `determination::first_rows` meets its contract: the row stands at the front of two arrays. Assumes nothing.
+-- `run_parts::first_rows` meets its contract: the row stands at the front of two arrays. Assumes nothing.
 use mathlib.Core.List.{List, [], _∷_}
 use mathlib.Core.Path.{_≡_, refl}
 use Prim.Native.Nat.{ℕ, zero, suc}
 use native.Mathlib.Omega.{arith}
 use borrow.Author.Needs.{needs}
 use Rattle.rounds.specs.Rows.{Row, rowIf, rowsWith}
-use Rattle.determination.proofs.first_rows.Statement.{statement}
-use Rattle.determination.proofs.first_rows.Tie as tie
+use Rattle.run_parts.proofs.first_rows.Statement.{statement}
+use Rattle.run_parts.proofs.first_rows.Tie as tie
 
 one : (n : ℕ) → (n ≡ 0 → ⊥) → _≡_ {A = List Row} (record { pattern = 0; count = n } ∷ []) (rowIf 0 n)
 unfolding rowIf

@@ -1,11 +1,11 @@
--- `determination::in_limits` meets its contract: each return rewrites with the tests that led there. Assumes nothing.
+-- `run_parts::in_limits` meets its contract: each return rewrites with the tests that led there. Assumes nothing.
 use mathlib.Core.Path.{refl}
 use Prim.Native.Nat.{_*_}
 use borrow.Author.Needs.{needs}
 use borrow.Author.Tests.{le-leb, lt-leb, lt-ltb, le-ltb, eq-eqb, ne-eqb}
-use Rattle.determination.specs.Record.{inLimits}
-use Rattle.determination.proofs.in_limits.Statement.{statement}
-use Rattle.determination.proofs.in_limits.Tie as tie
+use Rattle.run_parts.specs.Parts.{inLimits}
+use Rattle.run_parts.proofs.in_limits.Statement.{statement}
+use Rattle.run_parts.proofs.in_limits.Tie as tie
 
 returns : tie.Need-returns
 unfolding inLimits
