@@ -47,8 +47,8 @@ pub struct Found {
 // ---- tests
 
 // Whether each of the first n numbers is below the bound.
-pub fn front_below(list: &[u16; 64], n: usize, bound: u16) -> bool
-    requires { ⌜ n ≤ 64 ⌝ }
+pub fn front_below(list: &[u16], n: usize, bound: u16) -> bool
+    requires { ⌜ n ≤ length (now list) ⌝ }
     ensures { λ r. ⌜ r ≡ isBelow bound (take n (now (list .entry))) ⌝ }
 {
     below(&list[..n], bound)
@@ -95,8 +95,8 @@ pub fn in_limits(
 // ---- the products of a round
 
 // The adapted list of the first n patterns, at the front.
-pub fn products_of(i: usize, patterns: &[u16; 64], n: usize) -> [u16; 64]
-    requires { ⌜ (i ≤ 8) × (n ≤ 64) × Rising (take n (now patterns)) × Below (3 ^ i) (take n (now patterns)) ⌝ }
+pub fn products_of(i: usize, patterns: &[u16], n: usize) -> [u16; 64]
+    requires { ⌜ (i ≤ 8) × (n ≤ 64) × (n ≤ length (now patterns)) × Rising (take n (now patterns)) × Below (3 ^ i) (take n (now patterns)) ⌝ }
     ensures { λ r. ⌜ take n r ≡ adaptedOf i (take n (now (patterns .entry))) ⌝ }
 {
     let mut products = [0u16; 64];
@@ -105,8 +105,8 @@ pub fn products_of(i: usize, patterns: &[u16; 64], n: usize) -> [u16; 64]
 }
 
 // The k-th product of round i + 1, where the adapted list of the rows before it is the first n numbers of the list.
-pub fn product_at(i: usize, list: &[u16; 64], n: usize, k: usize) -> Product
-    requires { ⌜ (i ≤ 7) × (n ≤ 64) × Below (3 ^ i) (take n (now list)) × (k < 2 * n) ⌝ }
+pub fn product_at(i: usize, list: &[u16], n: usize, k: usize) -> Product
+    requires { ⌜ (i ≤ 7) × (n ≤ length (now list)) × Below (3 ^ i) (take n (now list)) × (k < 2 * n) ⌝ }
     ensures { λ r. ⌜ r .0 ≡ productAt i (take n (now (list .entry))) k ⌝ }
 {
     let once = power(i);
@@ -140,13 +140,14 @@ pub fn first_rows(count: u16) -> Rows
     }
 }
 
-// The answers of a round, 64 bits wide.
-fn widened(answers: &[i8; 128]) -> [i64; 128]
-    ensures { λ r. ⌜ r ≡ now (answers .entry) ⌝ }
+// The first n answers, 64 bits wide, at the front.
+fn widened(answers: &[i8], n: usize) -> [i64; 128]
+    requires { ⌜ (n ≤ 128) × (n ≤ length (now answers)) ⌝ }
+    ensures { λ r. ⌜ (take n r ≡ take n (now (answers .entry))) × (length r ≡ 128) ⌝ }
 {
     let mut wide = [0i64; 128];
     let mut k = 0;
-    while k < 128 {
+    while k < n {
         wide[k] = answers[k] as i64;
         k += 1;
     }
@@ -172,18 +173,18 @@ fn rows_after(i: usize, patterns: &[u16], counts: &[u16], answers: &[i64]) -> Fo
 // The same from the arrays of a record: the first so many rows, the first k answers, and the round's last answer.
 pub fn find_rows<'a>(
     i: usize,
-    patterns: &'a [u16; 64],
-    counts: &'a [u16; 64],
+    patterns: &'a [u16],
+    counts: &'a [u16],
     rows: usize,
-    answers: &'a [i8; 128],
+    answers: &'a [i8],
     k: usize,
     last: i64,
 ) -> Found
-    requires { ⌜ (i ≤ 7) × (rows ≤ 64) × (k < 128) ⌝ }
+    requires { ⌜ (i ≤ 7) × (rows ≤ length (now patterns)) × (rows ≤ length (now counts)) × (k < 128) × (k ≤ length (now answers)) ⌝ }
     ensures { λ r. ⌜ Left (roundRows i (rowsWith (take rows (now (patterns .entry))) (take rows (now (counts .entry)))) (take k (now (answers .entry)) ++ (last ∷ []))) (r .next) (r .patterns) (r .counts) ⌝ }
     ensures { λ r. ⌜ length (r .patterns) ≡ 64 ⌝ }
 {
-    let mut wide = widened(answers);
+    let mut wide = widened(answers, k);
     wide[k] = last;
     rows_after(i, &patterns[..rows], &counts[..rows], &wide[..k + 1])
 }
@@ -191,8 +192,8 @@ pub fn find_rows<'a>(
 // ---- rows handed out
 
 // Writes the first n numbers of the list to the front of out, which is as long or longer.
-pub fn copy_front(list: &[u16; 64], n: usize, out: &mut [u16])
-    requires { ⌜ (n ≤ 64) × (n ≤ length (now out)) ⌝ }
+pub fn copy_front(list: &[u16], n: usize, out: &mut [u16])
+    requires { ⌜ (n ≤ length (now list)) × (n ≤ length (now out)) ⌝ }
     ensures { λ _. ⌜ now (out .exit) ≡ take n (now (list .entry)) ++ drop n (now (out .entry)) ⌝ }
 {
     let mut k = 0;
