@@ -6,8 +6,10 @@ use mathlib.Core.List.{List, [], _∷_, _++_}
 use Prim.Native.Nat.{ℕ, suc, _+_, _*_, _-_, _^_, _≤_, _<_}
 use native.Mathlib.Numerals.{add-one}
 use native.Mathlib.Omega.{arith}
-use lib.IntN.{ℤ}
+use lib.IntN.{ℤ, pos, negsuc, natAbs}
 use lib.ListN.{length, take, set, length-append, length-take}
+use mir.Syntax.{w8}
+use mir.Val.{SFits}
 use lib.Seq.{length-take-le, take-suc-set}
 use Rattle.signs.specs.Lists.{Below}
 use Rattle.signs.specs.Adapted.{adapted}
@@ -28,6 +30,11 @@ use Rattle.determination.proofs.Records.{later-from, sound-below, sound
 use Rattle.round_end.specs.declared.Next.the-variants as next
 
 -- ---- the round goes on
+
+-- an answer within 64 has 8 bits
+pub narrow : (z : ℤ) → natAbs z ≤ 64 → SFits w8 z
+narrow (pos n) h = record { sfits = omega (arith, h) }
+narrow (negsuc n) h = record { sfits = omega (arith, h) }
 
 -- the answers with one more, as the code stores it
 pub stored : (l : List ℤ) (k : ℕ) (z : ℤ) → k < length l → take (k + 1) (set l k z) ≡ take k l ++ (z ∷ [])

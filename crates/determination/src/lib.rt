@@ -224,7 +224,7 @@ fn begin(mut run: Run, i: usize, points: u64, found: Rows) -> Answered
     let n = found.number;
     let patterns = found.patterns;
     let counts = found.counts;
-    let products = products_of(i, &found.patterns, n);
+    let products = products_of(i, &patterns, n);
     let product = product_at(i, &products, n, 0);
     run.asked = run.asked + 1;
     run.round = i + 1;
