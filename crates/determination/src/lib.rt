@@ -372,6 +372,18 @@ pub fn answer_lent(run: &mut Run, a: i64) -> Step
     r.step
 }
 
+// The same by value, through the lent entry: a local record is lent to it.
+pub fn answer_through(run: Run, a: i64) -> Answered
+    ensures { λ r. ⌜ ((stateOf (r .run), stepOf (r .step)) ≡ answerOf roundRows (stateOf run) a) × (stepOf (r .step) ≡ refused late → r .run ≡ run) ⌝ }
+{
+    let mut kept = run;
+    let step = answer_lent(&mut kept, a);
+    Answered {
+        run: kept,
+        step: step,
+    }
+}
+
 // Whether the run is done, and its rows can be had.
 fn done(run: Run) -> bool
     ensures { λ r. ⌜ r ≡ isDone run ⌝ }
