@@ -265,10 +265,11 @@ fn go_on(mut run: Run, a: i64) -> Answered
     ensures { λ r. ⌜ (stateOf (r .run), stepOf (r .step)) ≡ goOn roundRows (runningState run) (run .round - 1) (withAnswer run a) true ⌝ }
 {
     let k = run.answered;
+    let asked = run.asked + 1;
     let short = a as i8;
     run.answers[k] = short;
     run.answered = k + 1;
-    run.asked = run.asked + 1;
+    run.asked = asked;
     let product = product_at(run.round - 1, &run.products, run.rows, k + 1);
     Answered {
         run: run,
@@ -374,7 +375,7 @@ pub fn answer_lent(run: &mut Run, a: i64) -> Step
 
 // The same by value, through the lent entry: a local record is lent to it.
 pub fn answer_through(run: Run, a: i64) -> Answered
-    ensures { λ r. ⌜ ((stateOf (r .run), stepOf (r .step)) ≡ answerOf roundRows (stateOf run) a) × (stepOf (r .step) ≡ refused late → r .run ≡ run) ⌝ }
+    ensures { λ t. ⌜ ((stateOf (t .run), stepOf (t .step)) ≡ answerOf roundRows (stateOf run) a) × (stepOf (t .step) ≡ refused late → t .run ≡ run) ⌝ }
 {
     let mut kept = run;
     let step = answer_lent(&mut kept, a);

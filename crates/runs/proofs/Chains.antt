@@ -11,7 +11,8 @@ use Rattle.rounds.specs.RoundEnd.{roundRows}
 use Rattle.runs.specs.Run.{State, startOf, Step, ask, Fetch, Copy, running, answerOf, fetchOf, copyOf}
 use Rattle.runs.specs.Demand.{Call, answer, fetch, copy, Event, answered, fetched, copied-to, play, events, phaseOf, taken, given, Claim}
 use Rattle.runs.proofs.DemandThree.{demand3}
-use Rattle.runs.proofs.Reached.{Reached, reached}
+use Rattle.runs.specs.Reached.{Reached}
+use Rattle.runs.proofs.Reached.{reached}
 
 module _ (C : Type 0) (view : C → State) (Starts : ℕ → C → Step → Type 0) (Answers : C → ℤ → C → Step → Type 0)
     (Fetches : C → ℕ → Fetch → Type 0) (Copies : C → List ℕ → List ℕ → Copy → Type 0) where

@@ -1,16 +1,16 @@
--- What every record holds that calls reach from a start: bounds that a test of a record may ask for. Assumes nothing.
+-- Theorem: what every record holds that calls reach from a start. Assumes nothing.
 use mathlib.Core.Path.{_≡_, refl, sym, ap, _∙_, subst}
 use mathlib.Core.List.{List, [], _∷_}
 use Prim.Native.Nat.{ℕ, zero, suc, _+_, _*_, _<_, _≤_}
 use native.Mathlib.Omega.{arith}
 use lib.IntN.{ℤ}
 use lib.ListN.{length}
-use Rattle.rounds.specs.Rows.{maxPoints, maxPolynomials, Row, patterns}
+use Rattle.rounds.specs.Rows.{maxPolynomials, patterns}
 use Rattle.rounds.specs.RoundEnd.{roundRows}
-use Rattle.signs.specs.Adapted.{adapted}
 use Rattle.signs.proofs.Size.{as-many}
 use Rattle.runs.specs.Run.{Phase, running, finished, closed, State, startOf}
 use Rattle.runs.specs.Demand.{Call, play}
+use Rattle.runs.specs.Reached.{InRound, Reached}
 use Rattle.rounds.proofs.Answers.{Facts, facts, round-length}
 use Rattle.rounds.proofs.RoundEnds.{roundRows-right}
 use Rattle.rounds.proofs.RowLaws.{length-patterns}
@@ -18,25 +18,6 @@ use Rattle.rounds.proofs.Rounds.{fits-first, rows-oracle}
 use Rattle.rounds.proofs.Questions.{rows-most}
 use Rattle.runs.proofs.Invariant.{Going, At, Inv, start-inv, going-short}
 use Rattle.runs.proofs.Story.{Story, story}
-
--- of a record in round i + 1
-pub record InRound (r : State) (i : ℕ) : Type 0 where
-  pub some-row : 1 ≤ length (r .rows)
-  pub few-rows : length (r .rows) ≤ maxPoints
-  pub one-each : length (r .products) ≡ length (r .rows)
-  pub unfinished : length (r .answers) < 2 * length (r .rows)
-  pub few-points : r .n ≤ maxPoints
-  pub few-asked : r .total ≤ 2 * maxPoints * suc i
-  pub adapted-list : r .products ≡ adapted i (patterns (r .rows))
-
--- of a record in any phase; before the first answer it is as the start left it
-pub record Reached (s : ℕ) (r : State) : Type 0 where
-  pub polynomials : r .polynomials ≡ s
-  pub in-range : r .round ≤ s
-  pub few-asked : r .total ≤ 1 + 2 * maxPoints * r .round
-  pub before-first : r .phase ≡ running → r .round ≡ 0 → r ≡ startOf s
-  pub in-round : r .phase ≡ running → (i : ℕ) → r .round ≡ suc i → InRound r i
-  pub few-rows : r .phase ≡ finished → length (r .rows) ≤ maxPoints
 
 going-reached : (s : ℕ) (r : State) (zs : List ℤ) (ps : List ℕ) (i : ℕ) → Going s r zs ps i → r .total ≡ length zs → InRound r i
 going-reached s r zs ps i g count =

@@ -13,6 +13,11 @@ use Rattle.determination.proofs.Rounds.{went-on, narrow}
 use Rattle.determination.proofs.go_on.Statement.{statement}
 use Rattle.determination.proofs.go_on.Tie as tie
 
+add-asked : tie.Need-add-asked
+add-asked c =
+    let k = later-from (c .args .t1) (c .pre .0 .0) (c .pre .0 .1) in
+    omega arith
+
 cast-short : tie.Need-cast-short
 cast-short c =
     let k = later-from (c .args .t1) (c .pre .0 .0) (c .pre .0 .1) in
@@ -25,11 +30,6 @@ element-set-from-short c =
 
 add-run : tie.Need-add-run
 add-run c =
-    let k = later-from (c .args .t1) (c .pre .0 .0) (c .pre .0 .1) in
-    omega arith
-
-add-run-2 : tie.Need-add-run-2
-add-run-2 c =
     let k = later-from (c .args .t1) (c .pre .0 .0) (c .pre .0 .1) in
     omega arith
 
@@ -63,10 +63,10 @@ pub go-on-spec : {M : Type 1} → statement M
 go-on-spec =
     tie.close
     (tie.spec
+    add-asked
     cast-short
     element-set-from-short
     add-run
-    add-run-2
     sub-product-at
     add-product-at
     product-at-requires
