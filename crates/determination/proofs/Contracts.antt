@@ -13,10 +13,10 @@ use Rattle.determination.specs.declared.Run.{Run}
 use Rattle.determination.specs.declared.Answered.{Answered}
 use Rattle.determination.specs.declared.Fetched.{Fetched}
 use Rattle.determination.specs.declared.Copied as code
-use Rattle.determination.specs.Run.{State, Step, Fetch, Copy, ask, running, startOf, answerOf, fetchOf, copyOf}
+use Rattle.runs.specs.Run.{State, Step, Fetch, Copy, ask, running, startOf, answerOf, fetchOf, copyOf}
 use Rattle.determination.specs.Record.{stateOf, stepOf, fetchedOf, copiedOf, startedOf}
-use Rattle.determination.specs.Demand.{Call, Event, phaseOf, taken, given, Claim}
-use Rattle.determination.proofs.Chains.{Keeps, FromStart, demand3-chain}
+use Rattle.runs.specs.Demand.{Call, Event, phaseOf, taken, given, Claim}
+use Rattle.runs.proofs.Chains.{Keeps, FromStart, demand3-chain}
 use Rattle.determination.proofs.start.Reads as start
 use Rattle.determination.proofs.answer.Reads as answer
 use Rattle.determination.proofs.fetch_row.Reads as fetch

@@ -2,12 +2,12 @@
 use mathlib.Core.Path.{_≡_, sym, _∙_}
 use lib.ListN.{length, length-map}
 use Rattle.determination.specs.declared.Run.{Run}
-use Rattle.determination.specs.declared.Rows.{Rows}
+use Rattle.run_parts.specs.declared.Rows.{Rows}
 use Rattle.determination.proofs.Thin.{Data, Good, struct}
 use Rattle.determination.proofs.Run as run-type
 use Rattle.determination.proofs.Run.Laws as run-laws
-use Rattle.determination.proofs.Rows as rows-type
-use Rattle.determination.proofs.Rows.Laws as rows-laws
+use Rattle.run_parts.proofs.Rows as rows-type
+use Rattle.run_parts.proofs.Rows.Laws as rows-laws
 
 abbrev RunD : Data
 RunD = struct run-type.the-type run-laws.the-laws run-laws.the-plain run-laws.the-copy

@@ -1,19 +1,23 @@
--- The test of a running record: what it says, what passes it, and what a record stands for then. Assumes nothing.
-use mathlib.Core.Path.{_≡_, refl, ap, _∙_}
-use mathlib.Core.Bool.{Bool, true, false, cond, _&&_, false≢true}
+-- The tests of a record: what they say, what passes them, and what the record stands for then. Assumes nothing.
+use mathlib.Core.Path.{_≡_, refl, sym, ap}
+use mathlib.Core.Bool.{Bool, true, false, cond, _&&_}
+use mathlib.Core.Option.{Option}
+use mathlib.Core.List.{List}
 use Prim.Native.Nat.{ℕ, _+_, _*_, _-_, _^_, _≤_, _<_}
 use native.Mathlib.Decide.{ℕ-discrete}
 use native.Mathlib.Omega.{arith}
 use borrow.Author.Tests.{ltb-true, leb-true, eqb-true, lt-ltb, le-leb, lt-leb, eq-eqb, ne-eqb}
 use lib.Dec.{eqb, leb, ltb}
+use lib.IntN.{ℤ}
 use lib.ListN.{take}
 use Rattle.signs.specs.Lists.{Below, isBelow}
 use Rattle.signs.proofs.Orders.{both-left, both-right, below-from, below-test}
-use Rattle.rounds.specs.Rows.{maxPoints, maxPolynomials}
-use Rattle.determination.specs.Record.{mostAsked, inLimits, isSound, doneIn, isDone, runningState, doneState, closedState, stateIn, stateOf}
+use Rattle.rounds.specs.Rows.{maxPoints, maxPolynomials, Row}
+use Rattle.runs.specs.Run.{State, refused, late, answerOf}
+use Rattle.runs.proofs.Steps.{answer-finished, answer-closed}
+use Rattle.run_parts.specs.Parts.{inLimits}
+use Rattle.determination.specs.Record.{goes-on, is-done, mostAsked, isSound, isRunning, isDone, runningState, doneState, closedState, stateOf}
 use Rattle.determination.specs.declared.Run.{Run}
-use Rattle.determination.specs.declared.Phase.{Phase}
-use Rattle.determination.specs.declared.Phase.the-variants.{Running, Done, Closed}
 
 abbrev place : ℕ → ℕ → ℕ → ℕ → Bool
 place asked round rows answered = cond (eqb round 0) (eqb answered 0 && eqb asked 0) (ltb answered (2 * rows) && leb asked (128 * round + answered))
@@ -120,39 +124,63 @@ sound-asked r e = go (ℕ-discrete (r .round) 0) (sound-limits r e)
     go (yes z) l = omega (arith, l .at-first z)
     go (no z) l = omega (arith, l .at-later (omega arith))
 
-pub running-is : (r : Run) → r .phase ≡ Running → isSound r ≡ true → stateOf r ≡ runningState r
-unfolding stateOf stateIn
-running-is r p e = ap (λ (f : Phase). stateIn f r) p ∙ ap (λ (b : Bool). cond b (runningState r) (closedState r)) e
+-- ---- what a record stands for
 
-pub done-is : (r : Run) → r .phase ≡ Done → r .rows ≤ 64 → stateOf r ≡ doneState r
-unfolding stateOf stateIn
-done-is r p h =
-    ap (λ (f : Phase). stateIn f r) p ∙ ap (λ (b : Bool). cond b (doneState r) (closedState r)) (le-leb (r .rows) 64 h)
+-- a record whose run goes on
+pub running-phase : (r : Run) → isRunning r ≡ true → r .phase ≡ goes-on
+unfolding isRunning
+running-phase r e = eqb-true (r .phase) goes-on (both-left (eqb (r .phase) goes-on) (isSound r) e)
 
--- a record that fails the test stands for a closed run, as a closed one does
-pub unsound-is : (r : Run) → r .phase ≡ Running → isSound r ≡ false → stateOf r ≡ closedState r
-unfolding stateOf stateIn
-unsound-is r p e = ap (λ (f : Phase). stateIn f r) p ∙ ap (λ (b : Bool). cond b (runningState r) (closedState r)) e
+pub running-sound : (r : Run) → isRunning r ≡ true → isSound r ≡ true
+unfolding isRunning
+running-sound r e = both-right (eqb (r .phase) goes-on) (isSound r) e
 
-pub not-done-is : (r : Run) → r .phase ≡ Done → 64 < r .rows → stateOf r ≡ closedState r
-unfolding stateOf stateIn
-not-done-is r p h =
-    ap (λ (f : Phase). stateIn f r) p ∙ ap (λ (b : Bool). cond b (doneState r) (closedState r)) (lt-leb (r .rows) 64 h)
+pub running-to : (r : Run) → r .phase ≡ goes-on → isSound r ≡ true → isRunning r ≡ true
+unfolding isRunning
+running-to r p e = rw (eq-eqb (r .phase) goes-on p, e) refl
 
-done-in : (f : Phase) (r : Run) → doneIn f r ≡ true → (f ≡ Done) × (r .rows ≤ 64)
-unfolding doneIn
-done-in Running r e = absurd (false≢true e)
-done-in Done r e = (refl, leb-true (r .rows) 64 e)
-done-in Closed r e = absurd (false≢true e)
+pub running-is : (r : Run) → isRunning r ≡ true → stateOf r ≡ runningState r
+unfolding stateOf
+running-is r e = rw e refl
 
 -- a record that is done
-pub done-phase : (r : Run) → isDone r ≡ true → (r .phase ≡ Done) × (r .rows ≤ 64)
+pub done-phase : (r : Run) → isDone r ≡ true → (r .phase ≡ is-done) × (r .rows ≤ 64)
 unfolding isDone
-done-phase r e = done-in (r .phase) r e
+done-phase r e = (
+  eqb-true (r .phase) is-done (both-left (eqb (r .phase) is-done) (leb (r .rows) maxPoints) e),
+  leb-true (r .rows) 64 (both-right (eqb (r .phase) is-done) (leb (r .rows) maxPoints) e),
+)
 
-pub closed-is : (r : Run) → r .phase ≡ Closed → stateOf r ≡ closedState r
-unfolding stateOf stateIn
-closed-is r p = ap (λ (f : Phase). stateIn f r) p
+not-running : (r : Run) → (r .phase ≡ goes-on → ⊥) → isRunning r ≡ false
+unfolding isRunning
+not-running r h = rw (ne-eqb (r .phase) goes-on h) refl
+
+pub done-is : (r : Run) → isDone r ≡ true → stateOf r ≡ doneState r
+unfolding stateOf
+done-is r e =
+    let n = not-running r (λ z. omega (arith, z, done-phase r e .0)) in
+    rw (n, e) refl
+
+-- a record that is neither stands for a closed run
+pub closed-is : (r : Run) → isRunning r ≡ false → isDone r ≡ false → stateOf r ≡ closedState r
+unfolding stateOf
+closed-is r e f = rw (e, f) refl
+
+not-done : (r : Run) → (r .phase ≡ is-done → ⊥) → isDone r ≡ false
+unfolding isDone
+not-done r h = rw (ne-eqb (r .phase) is-done h) refl
+
+pub closed-phase : (r : Run) → r .phase ≡ 2 → stateOf r ≡ closedState r
+closed-phase r p = closed-is r (not-running r (λ z. omega (arith, z, p))) (not-done r (λ z. omega (arith, z, p)))
+
+-- an answer to a run that does not go on
+pub answer-late : (N : ℕ → List Row → List ℤ → Option (List Row)) (r : Run) (a : ℤ) → isRunning r ≡ false
+    → answerOf N (stateOf r) a ≡ (stateOf r, refused late)
+answer-late N r a e = go (isDone r) refl
+  where
+    go : (b : Bool) → isDone r ≡ b → answerOf N (stateOf r) a ≡ (stateOf r, refused late)
+    go true d = answer-finished N (stateOf r) a (ap (λ (s : State). s .phase) (done-is r d))
+    go false d = answer-closed N (stateOf r) a (ap (λ (s : State). s .phase) (closed-is r e d))
 
 -- ---- what the code knows of a record
 
@@ -166,9 +194,9 @@ pub record Later (r : Run) : Type 0 where
   pub few-asked : r .asked ≤ 128 * r .round + r .answered
   pub least-asked : r .asked < mostAsked
 
-pub sound-later : (r : Run) → isSound r ≡ true → 0 < r .round → Later r
-sound-later r e h =
-    let l = sound-limits r e in
+pub later-from : (r : Run) → isRunning r ≡ true → 0 < r .round → Later r
+later-from r e h =
+    let l = sound-limits r (running-sound r e) in
     record {
       most = l .most;
       rounds = l .rounds;
@@ -176,7 +204,7 @@ sound-later r e h =
       few-rows = l .few-rows;
       place = l .at-later h;
       few-asked = l .few-asked;
-      least-asked = sound-asked r e;
+      least-asked = sound-asked r (running-sound r e);
     }
 
 -- the test, as the code makes it
@@ -192,3 +220,17 @@ pub test-later : (r : Run) → inLimits (r .polynomials) (r .asked) (r .round) (
     → isBelow (3 ^ (r .round - 1)) (take (r .rows) (r .products)) ≡ isSound r
 unfolding isSound
 test-later r e z = rw (e, ne-eqb (r .round) 0 z) refl
+
+pub test-phase : (r : Run) → (r .phase ≡ goes-on → ⊥) → false ≡ isRunning r
+test-phase r h = sym (not-running r h)
+
+pub test-running : (r : Run) → r .phase ≡ goes-on → isSound r ≡ isRunning r
+unfolding isRunning
+test-running r p = rw (eq-eqb (r .phase) goes-on p) refl
+
+pub test-not-done : (r : Run) → (r .phase ≡ is-done → ⊥) → false ≡ isDone r
+test-not-done r h = sym (not-done r h)
+
+pub test-done : (r : Run) → r .phase ≡ is-done → leb (r .rows) 64 ≡ isDone r
+unfolding isDone
+test-done r p = rw (eq-eqb (r .phase) is-done p) refl

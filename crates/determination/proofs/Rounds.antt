@@ -5,30 +5,36 @@ use mathlib.Core.Option.{Option, some, none}
 use mathlib.Core.List.{List, [], _∷_, _++_}
 use Prim.Native.Nat.{ℕ, suc, _+_, _*_, _-_, _^_, _≤_, _<_}
 use native.Mathlib.Numerals.{add-one}
-use native.Mathlib.Decide.{decLe}
 use native.Mathlib.Omega.{arith}
-use lib.IntN.{ℤ}
+use lib.IntN.{ℤ, pos, negsuc, natAbs}
 use lib.ListN.{length, take, set, length-append, length-take}
+use mir.Syntax.{w8}
+use mir.Val.{SFits}
 use lib.Seq.{length-take-le, take-suc-set}
 use Rattle.signs.specs.Lists.{Below}
 use Rattle.signs.specs.Adapted.{adapted}
 use Rattle.signs.proofs.Blocks.{adapted-below}
 use Rattle.rounds.specs.Rows.{Row, patterns, counts, rowsWith}
-use Rattle.rounds.specs.RoundEnd.{roundRows, Left}
-use Rattle.rounds.specs.declared.Next.{Next}
+use Rattle.rounds.specs.RoundEnd.{roundRows}
+use Rattle.round_end.specs.Outcome.{Left}
+use Rattle.round_end.specs.declared.Next.{Next}
 use Rattle.rounds.proofs.RowLaws.{length-patterns}
-use Rattle.determination.specs.Run.{State, Step, ask, refused, late, productAt, ended, goOn, answerOf}
-use Rattle.determination.specs.Record.{isSound, runningState, stateOf, heldRows}
+use Rattle.runs.specs.Run.{State, Step, ask, productAt, ended, goOn}
+use Rattle.run_parts.specs.Parts.{heldRows}
+use Rattle.run_parts.specs.declared.Rows.{Rows}
+use Rattle.determination.specs.Record.{goes-on, isSound, isRunning, runningState, stateOf}
 use Rattle.determination.specs.declared.Run.{Run}
-use Rattle.determination.specs.declared.Rows.{Rows}
-use Rattle.determination.specs.declared.Phase.the-variants.{Running, Done}
-use Rattle.determination.proofs.Held.{with-patterns, with-own, below-all}
+use Rattle.runs.proofs.Held.{with-patterns, with-own, below-all}
 use Rattle.determination.proofs.Lengths.{Lengths}
-use Rattle.determination.proofs.Records.{sound-later, sound-below, sound-to, limits-to, running-is, done-is, not-done-is}
-use Rattle.determination.proofs.Steps.{answer-finished, answer-closed}
-use Rattle.rounds.specs.declared.Next.the-variants as next
+use Rattle.determination.proofs.Records.{later-from, sound-below, sound-to, limits-to, running-is, running-to, running-phase, running-sound}
+use Rattle.round_end.specs.declared.Next.the-variants as next
 
 -- ---- the round goes on
+
+-- an answer within 64 has 8 bits
+pub narrow : (z : ℤ) → natAbs z ≤ 64 → SFits w8 z
+narrow (pos n) h = record { sfits = omega (arith, h) }
+narrow (negsuc n) h = record { sfits = omega (arith, h) }
 
 -- the answers with one more, as the code stores it
 pub stored : (l : List ℤ) (k : ℕ) (z : ℤ) → k < length l → take (k + 1) (set l k z) ≡ take k l ++ (z ∷ [])
@@ -42,7 +48,7 @@ wentOn r a =
     record {
       polynomials = r .polynomials;
       asked = r .asked + 1;
-      phase = Running;
+      phase = r .phase;
       round = r .round;
       points = r .points;
       rows = r .rows;
@@ -53,21 +59,21 @@ wentOn r a =
       answers = set (r .answers) (r .answered) a;
     }
 
-module _ (r : Run) (a : ℤ) (n : Lengths r) (e : isSound r ≡ true) (later : 0 < r .round) (more : r .answered + 1 < 2 * r .rows) where
+module _ (r : Run) (a : ℤ) (n : Lengths r) (e : isRunning r ≡ true) (later : 0 < r .round) (more : r .answered + 1 < 2 * r .rows) where
   went-sound : isSound (wentOn r a) ≡ true
   went-sound =
-      let k = sound-later r e later in
+      let k = later-from r e later in
       sound-to (wentOn r a) later
       (limits-to (r .polynomials) (r .asked + 1) (r .round) (r .points) (r .rows) (r .answered + 1) later (k .rounds) (k .most) (k .few-points) (k .few-rows) more (omega arith))
-      (sound-below r e later)
+      (sound-below r (running-sound r e) later)
 
   pub went-on : (p : ℕ) → p ≡ productAt (r .round - 1) (take (r .rows) (r .products)) (r .answered + 1)
       → _≡_ {A = State × Step} (stateOf (wentOn r a), ask p)
       (goOn roundRows (runningState r) (r .round - 1) (take (r .answered) (r .answers) ++ (a ∷ [])) true)
   went-on p q =
-      let k = sound-later r e later in
+      let k = later-from r e later in
       let h : r .answered < length (r .answers) = omega arith in
-      let e₀ = running-is (wentOn r a) refl went-sound in
+      let e₀ = running-is (wentOn r a) (running-to (wentOn r a) (running-phase r e) went-sound) in
       let e₁ = add-one (r .asked) in
       let e₂ : r .round ≡ suc (r .round - 1) = omega arith in
       let e₃ = stored (r .answers) (r .answered) a h in
@@ -81,7 +87,7 @@ begunRun r i points h products =
     record {
       polynomials = r .polynomials;
       asked = r .asked + 1;
-      phase = Running;
+      phase = r .phase;
       round = i + 1;
       points = points;
       rows = h .number;
@@ -92,7 +98,7 @@ begunRun r i points h products =
       answers = r .answers;
     }
 
-module _ (r : Run) (i points : ℕ) (h : Rows) (A : List ℕ) (P : length (h .patterns) ≡ 64) (C : length (h .counts) ≡ 64) (before : i < r .polynomials)
+module _ (r : Run) (i points : ℕ) (h : Rows) (A : List ℕ) (P : length (h .patterns) ≡ 64) (C : length (h .counts) ≡ 64) (going : r .phase ≡ goes-on) (before : i < r .polynomials)
     (most : r .polynomials ≤ 8) (few-points : points ≤ 64) (few-asked : r .asked < 128 * suc i) (some-rows : 0 < h .number) (few-rows : h .number ≤ 64)
     (list : take (h .number) A ≡ adapted i (take (h .number) (h .patterns))) where
   pub list-below : Below (3 ^ i) (take (h .number) A)
@@ -108,7 +114,7 @@ module _ (r : Run) (i points : ℕ) (h : Rows) (A : List ℕ) (P : length (h .pa
   pub begun : (p : ℕ) → p ≡ productAt i (take (h .number) A) 0
       → _≡_ {A = State × Step} (stateOf (begunRun r i points h A), ask p) (ended roundRows (runningState r) i points (heldRows h) false)
   begun p q =
-      let e₀ = running-is (begunRun r i points h A) refl begun-sound in
+      let e₀ = running-is (begunRun r i points h A) (running-to (begunRun r i points h A) going begun-sound) in
       let e₁ = add-one (r .asked) in
       let e₂ = add-one i in
       let l₁ = length-take-le (h .number) (h .patterns) (omega arith) in
@@ -150,12 +156,3 @@ module _ (o : Option (List Row)) (n : ℕ) (P C : List ℕ) (s : Some o n P C) w
   some-held =
       let e : rowsWith (take n P) (take n C) ≡ s .rows = rw (s .its-patterns, s .its-counts) (with-own (s .rows)) in
       s .is ∙ ap some (sym e)
-
--- ---- an answer after done
-
-pub late-done : (N : ℕ → List Row → List ℤ → Option (List Row)) (r : Run) (a : ℤ) → r .phase ≡ Done → answerOf N (stateOf r) a ≡ (stateOf r, refused late)
-late-done N r a f = go (decLe (r .rows) 64)
-  where
-    go : Dec (r .rows ≤ 64) → answerOf N (stateOf r) a ≡ (stateOf r, refused late)
-    go (yes h) = answer-finished N (stateOf r) a (ap (λ (s : State). s .phase) (done-is r f h))
-    go (no h) = answer-closed N (stateOf r) a (ap (λ (s : State). s .phase) (not-done-is r f (omega arith)))

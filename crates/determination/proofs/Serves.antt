@@ -8,49 +8,32 @@ use borrow.Author.Tests.{lt-ltb, le-ltb, le-leb, lt-leb}
 use lib.ListN.{length, getD, take, drop}
 use lib.Seq.{length-take-le, getD-take}
 use Rattle.rounds.specs.Rows.{Row, rowsWith}
-use Rattle.determination.specs.Run.{Phase as Stage, running, finished, closed, row, no-row, copied, kept, fetchOf, fetchRule, copyOf, copyRule, late, past-last, too-short}
-use Rattle.determination.specs.Record.{isSound, doneIn, isDone, runningState, doneState, closedState, stateIn, stateOf}
+use Rattle.runs.specs.Run.{Phase, running, finished, closed, row, no-row, copied, kept, fetchOf, fetchRule, copyOf, copyRule, late, past-last, too-short}
+use Rattle.determination.specs.Record.{isRunning, isDone, runningState, doneState, closedState, stateOf}
 use Rattle.determination.specs.declared.Run.{Run}
-use Rattle.determination.specs.declared.Phase.{Phase}
-use Rattle.determination.specs.declared.Phase.the-variants.{Running, Done, Closed}
-use Rattle.determination.proofs.Held.{with-length, with-at, with-map-pattern, with-map-count}
+use Rattle.runs.proofs.Held.{with-length, with-at, with-map-pattern, with-map-count}
 use Rattle.determination.proofs.Records.{done-is, done-phase}
-
-total-in : (f : Phase) (r : Run) → r .asked ≡ stateIn f r .total
-unfolding stateIn
-total-in Running r = go (isSound r)
-  where
-    go : (b : Bool) → r .asked ≡ cond b (runningState r) (closedState r) .total
-    go true = refl
-    go false = refl
-total-in Done r = go (lib.Dec.leb (r .rows) 64)
-  where
-    go : (b : Bool) → r .asked ≡ cond b (doneState r) (closedState r) .total
-    go true = refl
-    go false = refl
-total-in Closed r = refl
 
 pub total-asked : (r : Run) → r .asked ≡ stateOf r .total
 unfolding stateOf
-total-asked r = total-in (r .phase) r
+total-asked r = go (isRunning r) (isDone r)
+  where
+    go : (b d : Bool) → r .asked ≡ cond b (runningState r) (cond d (doneState r) (closedState r)) .total
+    go true d = refl
+    go false true = refl
+    go false false = refl
 
 -- ---- no rows before done and after closed
 
-not-finished-in : (f : Phase) (r : Run) → doneIn f r ≡ false → stateIn f r .phase ≡ finished → ⊥
-unfolding stateIn doneIn
-not-finished-in Running r e = go (isSound r)
+not-finished : (r : Run) → isDone r ≡ false → stateOf r .phase ≡ finished → ⊥
+unfolding stateOf
+not-finished r e = rw e (go (isRunning r))
   where
     go : (b : Bool) → cond b (runningState r) (closedState r) .phase ≡ finished → ⊥
     go true z = let x : _≡_ {A = ℕ} 0 1 = cc in omega arith
     go false z = let x : _≡_ {A = ℕ} 0 1 = cc in omega arith
-not-finished-in Done r e = rw e (λ z. let x : _≡_ {A = ℕ} 0 1 = cc in omega arith)
-not-finished-in Closed r e = λ z. let x : _≡_ {A = ℕ} 0 1 = cc in omega arith
 
-not-finished : (r : Run) → isDone r ≡ false → stateOf r .phase ≡ finished → ⊥
-unfolding stateOf isDone
-not-finished r e = not-finished-in (r .phase) r e
-
-no-fetch : (f : Stage) (R : List Row) (p : ℕ) → (f ≡ finished → ⊥) → no-row late ≡ fetchRule f R p
+no-fetch : (f : Phase) (R : List Row) (p : ℕ) → (f ≡ finished → ⊥) → no-row late ≡ fetchRule f R p
 unfolding fetchRule
 no-fetch running R p h = refl
 no-fetch finished R p h = absurd (h refl)
@@ -60,7 +43,7 @@ pub fetch-late : (r : Run) (p : ℕ) → isDone r ≡ false → no-row late ≡ 
 unfolding fetchOf
 fetch-late r p e = no-fetch (stateOf r .phase) (stateOf r .rows) p (not-finished r e)
 
-no-copy : (f : Stage) (R : List Row) (a b : List ℕ) → (f ≡ finished → ⊥) → kept late a b ≡ copyRule f R a b
+no-copy : (f : Phase) (R : List Row) (a b : List ℕ) → (f ≡ finished → ⊥) → kept late a b ≡ copyRule f R a b
 unfolding copyRule
 no-copy running R a b h = refl
 no-copy finished R a b h = absurd (h refl)
@@ -77,7 +60,7 @@ module _ (r : Run) (d : isDone r ≡ true) (P : length (r .patterns) ≡ 64) (C 
   few = done-phase r d .1
 
   finished-is : stateOf r ≡ doneState r
-  finished-is = done-is r (done-phase r d .0) few
+  finished-is = done-is r d
 
   p-length : length (take (r .rows) (r .patterns)) ≡ r .rows
   p-length = length-take-le (r .rows) (r .patterns) (omega (arith, few))

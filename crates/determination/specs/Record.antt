@@ -2,15 +2,15 @@
 --
 --   stepOf, fetchedOf, copiedOf == what the code's calls give, in the rules' words, with document 01's numbers
 --   outside-limits   == the refusal number 3
---   inLimits s asked round points rows answered == the test of a running record's numbers: 1 to 8 polynomials, a round of theirs, at most 64
---                       points and rows, fewer answers than the round has products, and no more questions than such rounds can have had
+--   goes-on, is-done == the phase of a record whose run goes on, and of one whose run is done
+--   isSound run      == the test of a running record: its numbers are within limits, and its products are of the polynomials before its round
 --   mostAsked        == a number above the questions of any such record
---   isSound run      == the same of a running record, and its products are of the polynomials before its round
+--   isRunning run    == the test of a record whose run goes on
 --   isDone run       == the test of a record that is done: at most 64 rows
 --   runningState, doneState, closedState == a record as one of a run that goes on, is done or is closed; a closed one holds no rows
 --   stateOf run      == what the record stands for. A record may hold anything: one that no start and no answer could have left, so that it fails
 --                       the test, stands for a closed run
---   heldRows h, withAnswer r z, lateOn r == the rows in two arrays, the round's answers with one more, and what an answer after the end gives
+--   withAnswer r z, lateOn r == the round's answers with one more, and what an answer after the end gives
 --   startedOf s      == the record that a start for s polynomials gives, and the step: 3 outside 1 .. 8
 use mathlib.Core.Bool.{Bool, true, false, cond, _&&_}
 use mathlib.Core.List.{List, [], _∷_, _++_}
@@ -20,13 +20,11 @@ use lib.IntN.{ℤ}
 use lib.ListN.{take}
 use Rattle.signs.specs.Lists.{isBelow}
 use Rattle.rounds.specs.Rows.{maxPoints, maxPolynomials, Row, rowsWith}
-use Rattle.determination.specs.Run.{State, running, finished, closed, Step, ask, done, refused, Fetch, row, no-row, Copied, copied, not-copied, late, startOf}
+use Rattle.run_parts.specs.Parts.{inLimits}
+use Rattle.runs.specs.Run.{State, running, finished, closed, Step, ask, done, refused, Fetch, row, no-row, Copied, copied, not-copied, late, startOf}
 use Rattle.determination.specs.declared.Run.{Run}
 use Rattle.determination.specs.declared.Answered.{Answered}
-use Rattle.determination.specs.declared.Rows.{Rows}
 use Rattle.determination.specs.declared.Fetched.{Fetched}
-use Rattle.determination.specs.declared.Phase as code-phase
-use Rattle.determination.specs.declared.Phase.the-variants as phases
 use Rattle.determination.specs.declared.Step as code-step
 use Rattle.determination.specs.declared.Step.the-variants as steps
 use Rattle.determination.specs.declared.Fetched.the-variants as fetches
@@ -53,30 +51,27 @@ copiedOf (copies.Refused k) = not-copied k
 
 -- ---- the record
 
+-- a record's phase; any other number is read as closed
+abbrev pub goes-on : ℕ
+goes-on = 0
+
+abbrev pub is-done : ℕ
+is-done = 1
+
 abbrev pub mostAsked : ℕ
 mostAsked = 2 * maxPoints * suc maxPolynomials
-
-unfoldable pub inLimits : ℕ → ℕ → ℕ → ℕ → ℕ → ℕ → Bool
-inLimits s asked round points rows answered =
-    leb 1 s
-    && (leb s maxPolynomials
-    && (leb round s
-    && (leb points maxPoints
-    && (leb rows maxPoints
-    && cond (eqb round 0) (eqb answered 0 && eqb asked 0) (ltb answered (2 * rows) && leb asked (2 * maxPoints * round + answered))))))
 
 unfoldable pub isSound : Run → Bool
 isSound r =
     inLimits (r .polynomials) (r .asked) (r .round) (r .points) (r .rows) (r .answered)
     && cond (eqb (r .round) 0) true (isBelow (3 ^ (r .round - 1)) (take (r .rows) (r .products)))
 
-unfoldable pub doneIn : code-phase.Phase → Run → Bool
-doneIn phases.Running r = false
-doneIn phases.Done r = leb (r .rows) maxPoints
-doneIn phases.Closed r = false
+-- the test of a record whose run goes on, and of one that is done
+unfoldable pub isRunning : Run → Bool
+isRunning r = eqb (r .phase) goes-on && isSound r
 
 unfoldable pub isDone : Run → Bool
-isDone r = doneIn (r .phase) r
+isDone r = eqb (r .phase) is-done && leb (r .rows) maxPoints
 
 -- the answers of the round with one more
 abbrev pub withAnswer : Run → ℤ → List ℤ
@@ -85,10 +80,6 @@ withAnswer r z = take (r .answered) (r .answers) ++ (z ∷ [])
 -- what an answer gives that comes too late
 abbrev pub lateOn : Run → Answered
 lateOn r = record { run = r; step = steps.Refused late }
-
--- the rows that stand at the front of two arrays
-abbrev pub heldRows : Rows → List Row
-heldRows h = rowsWith (take (h .number) (h .patterns)) (take (h .number) (h .counts))
 
 abbrev pub runningState : Run → State
 runningState r =
@@ -120,13 +111,8 @@ abbrev pub closedState : Run → State
 closedState r =
     record { polynomials = r .polynomials; total = r .asked; phase = closed; round = r .round; n = r .points; rows = []; products = []; answers = [] }
 
-unfoldable pub stateIn : code-phase.Phase → Run → State
-stateIn phases.Running r = cond (isSound r) (runningState r) (closedState r)
-stateIn phases.Done r = cond (leb (r .rows) maxPoints) (doneState r) (closedState r)
-stateIn phases.Closed r = closedState r
-
 unfoldable pub stateOf : Run → State
-stateOf r = stateIn (r .phase) r
+stateOf r = cond (isRunning r) (runningState r) (cond (isDone r) (doneState r) (closedState r))
 
 -- ---- the start
 

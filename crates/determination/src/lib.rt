@@ -6,19 +6,24 @@
 ghost use mathlib.Core.Path.{_≡_};
 ghost use mathlib.Core.Bool.{true, false};
 ghost use mathlib.Core.Option.{some};
-ghost use mathlib.Core.List.{[], _∷_, _++_};
 ghost use Prim.Native.Nat.{suc, _+_, _*_, _-_, _^_, _≤_, _<_};
-ghost use lib.ListN.{length, take, drop};
-ghost use Rattle.signs.specs.Lists.{Below, Rising, isBelow};
-ghost use Rattle.signs.specs.Adapted.{adapted as adaptedOf};
-ghost use Rattle.rounds.specs.Rows.{rowIf, rowsWith};
-ghost use Rattle.rounds.specs.RoundEnd.{roundRows, Ended, Left};
-ghost use Rattle.determination.specs.Run.{answerOf, productAt, close as closeOf, goOn, endRound, ended, first as firstOf, later as laterOf, fetchOf, copyOf, refused, late};
-ghost use Rattle.determination.specs.Record.{mostAsked, inLimits, isSound, runningState, withAnswer, isDone, lateOn, stateOf, stepOf, fetchedOf, copiedOf, heldRows, startedOf};
-use adapted::adapted;
+ghost use lib.IntN.{natAbs};
+ghost use lib.ListN.{take};
+ghost use Rattle.signs.specs.Lists.{Below, Rising};
+ghost use Rattle.rounds.specs.RoundEnd.{roundRows};
+ghost use Rattle.runs.specs.Run.{answerOf, close as closeOf, goOn, endRound, ended, first as firstOf, later as laterOf, fetchOf, copyOf, refused, late};
+ghost use Rattle.run_parts.specs.Parts.{heldRows};
+ghost use Rattle.determination.specs.Record.{goes-on, mostAsked, isSound, isRunning, runningState, withAnswer, isDone, lateOn, stateOf, stepOf, fetchedOf, copiedOf, startedOf};
 use integers::magnitude;
-use rounds::Next;
-use rounds::next_rows;
+use round_end::Next;
+use run_parts::Rows;
+use run_parts::copy_front;
+use run_parts::find_rows;
+use run_parts::first_rows;
+use run_parts::front_below;
+use run_parts::in_limits;
+use run_parts::product_at;
+use run_parts::products_of;
 use signs::Pattern;
 use signs::Product;
 use signs::power;
@@ -29,9 +34,6 @@ const MOST_POLYNOMIALS: usize = 8;
 const MOST_POINTS: u64 = 64;
 
 const MOST_ROWS: usize = 64;
-
-// The most products of a round.
-const MOST_PRODUCTS: usize = 128;
 
 // The refusal numbers of document 01.
 const OUTSIDE_LIMITS: u16 = 3;
@@ -48,12 +50,12 @@ const PAST_LAST: u16 = 14;
 
 const TOO_SHORT: u16 = 15;
 
-// Where a run stands.
-pub enum Phase {
-    Running,
-    Done,
-    Closed,
-}
+// Where a run stands. Any other number is read as closed.
+pub const RUNNING: u8 = 0;
+
+pub const DONE: u8 = 1;
+
+pub const CLOSED: u8 = 2;
 
 // What an answer gives: the next product to ask, done, or a refusal number. 8, 9 and 10 close the run; 7 leaves it as it was.
 pub enum Step {
@@ -81,10 +83,11 @@ pub enum Copied {
 }
 
 // The run record. Of `patterns`, `counts` and `products`, the adapted list, the first `rows` count, and of `answers` the first `answered`.
+#[repr(C)]
 pub struct Run {
     pub polynomials: usize,
     pub asked: usize,
-    pub phase: Phase,
+    pub phase: u8,
     pub round: usize,
     pub points: u64,
     pub rows: usize,
@@ -92,7 +95,7 @@ pub struct Run {
     pub counts: [u16; 64],
     pub products: [u16; 64],
     pub answered: usize,
-    pub answers: [i64; 128],
+    pub answers: [i8; 128],
 }
 
 // The record after a call, and the step.
@@ -101,22 +104,8 @@ pub struct Answered {
     pub step: Step,
 }
 
-// Rows on their way into a record.
-struct Rows {
-    number: usize,
-    patterns: [u16; 64],
-    counts: [u16; 64],
-}
-
-// The end of a round, with the arrays that hold its rows.
-struct Found {
-    next: Next,
-    patterns: [u16; 64],
-    counts: [u16; 64],
-}
-
 // A record before the first answer.
-fn fresh(s: usize, phase: Phase) -> Run
+fn fresh(s: usize, phase: u8) -> Run
     ensures { λ r. ⌜ (r .polynomials ≡ s) × (r .phase ≡ phase) × (r .asked ≡ 0) × (r .round ≡ 0) × (r .points ≡ 0) × (r .rows ≡ 0) × (r .answered ≡ 0) ⌝ }
 {
     Run {
@@ -130,7 +119,7 @@ fn fresh(s: usize, phase: Phase) -> Run
         counts: [0u16; 64],
         products: [0u16; 64],
         answered: 0,
-        answers: [0i64; 128],
+        answers: [0i8; 128],
     }
 }
 
@@ -141,72 +130,20 @@ pub fn start(s: usize) -> Answered
 {
     if s < 1 {
         return Answered {
-            run: fresh(s, Phase::Closed),
+            run: fresh(s, CLOSED),
             step: Step::Refused(OUTSIDE_LIMITS),
         };
     }
     if MOST_POLYNOMIALS < s {
         return Answered {
-            run: fresh(s, Phase::Closed),
+            run: fresh(s, CLOSED),
             step: Step::Refused(OUTSIDE_LIMITS),
         };
     }
     Answered {
-        run: fresh(s, Phase::Running),
+        run: fresh(s, RUNNING),
         step: Step::Ask(Product(0)),
     }
-}
-
-// Whether each number is below the bound.
-fn all_below(list: &[u16], bound: u16) -> bool
-    ensures { λ r. ⌜ r ≡ isBelow bound (now (list .entry)) ⌝ }
-{
-    let mut k = 0;
-    while k < list.len() {
-        if bound <= list[k] {
-            return false;
-        }
-        k += 1;
-    }
-    true
-}
-
-// Whether a running record's numbers are such as the calls leave.
-fn in_limits(
-    s: usize,
-    asked: usize,
-    round: usize,
-    points: u64,
-    rows: usize,
-    answered: usize,
-) -> bool
-    ensures { λ r. ⌜ r ≡ inLimits s asked round points rows answered ⌝ }
-{
-    if s < 1 {
-        return false;
-    }
-    if MOST_POLYNOMIALS < s {
-        return false;
-    }
-    if s < round {
-        return false;
-    }
-    if MOST_POINTS < points {
-        return false;
-    }
-    if MOST_ROWS < rows {
-        return false;
-    }
-    if round == 0 {
-        if answered == 0 {
-            return asked == 0;
-        }
-        return false;
-    }
-    if answered < 2 * rows {
-        return asked <= MOST_PRODUCTS * round + answered;
-    }
-    false
 }
 
 // Whether a running record is such as the calls leave.
@@ -228,92 +165,58 @@ fn sound(run: Run) -> bool
     if round == 0 {
         return true;
     }
-    let products = run.products;
-    all_below(&products[..rows], power(round - 1))
+    front_below(&run.products, rows, power(round - 1))
+}
+
+// Whether the run goes on.
+fn running(run: Run) -> bool
+    ensures { λ r. ⌜ r ≡ isRunning run ⌝ }
+{
+    if run.phase != RUNNING {
+        return false;
+    }
+    sound(run)
 }
 
 // The record closed by a refusal: one more question, and no rows.
-fn close(run: Run, k: u16) -> Answered
+fn close(mut run: Run, k: u16) -> Answered
     requires { ⌜ run .asked < mostAsked ⌝ }
     ensures { λ r. ⌜ (stateOf (r .run), stepOf (r .step)) ≡ closeOf roundRows (runningState run) k ⌝ }
 {
-    let patterns = run.patterns;
-    let counts = run.counts;
-    let products = run.products;
-    let answers = run.answers;
-    let closed = Run {
-        polynomials: run.polynomials,
-        asked: run.asked + 1,
-        phase: Phase::Closed,
-        round: run.round,
-        points: run.points,
-        rows: 0,
-        patterns: patterns,
-        counts: counts,
-        products: products,
-        answered: 0,
-        answers: answers,
-    };
+    run.asked = run.asked + 1;
+    run.phase = CLOSED;
+    run.rows = 0;
+    run.answered = 0;
     Answered {
-        run: closed,
+        run: run,
         step: Step::Refused(k),
     }
 }
 
 // Round i has ended with these rows, and the run is done.
-fn finish(run: Run, i: usize, points: u64, found: Rows) -> Answered
+fn finish(mut run: Run, i: usize, points: u64, found: Rows) -> Answered
     requires { ⌜ (run .asked < mostAsked) × (found .number ≤ 64) ⌝ }
     ensures { λ r. ⌜ (stateOf (r .run), stepOf (r .step)) ≡ ended roundRows (runningState run) i points (heldRows found) true ⌝ }
 {
     let patterns = found.patterns;
     let counts = found.counts;
-    let products = run.products;
-    let answers = run.answers;
-    let done = Run {
-        polynomials: run.polynomials,
-        asked: run.asked + 1,
-        phase: Phase::Done,
-        round: i,
-        points: points,
-        rows: found.number,
-        patterns: patterns,
-        counts: counts,
-        products: products,
-        answered: 0,
-        answers: answers,
-    };
+    run.asked = run.asked + 1;
+    run.phase = DONE;
+    run.round = i;
+    run.points = points;
+    run.rows = found.number;
+    run.patterns = patterns;
+    run.counts = counts;
+    run.answered = 0;
     Answered {
-        run: done,
+        run: run,
         step: Step::Done,
     }
 }
 
-// The adapted list of the patterns, at the front.
-fn products_of(i: usize, patterns: &[u16]) -> [u16; 64]
-    requires { ⌜ (i ≤ 8) × Rising (now patterns) × Below (3 ^ i) (now patterns) × (length (now patterns) ≤ 64) ⌝ }
-    ensures { λ r. ⌜ (take (length (now (patterns .entry))) r ≡ adaptedOf i (now (patterns .entry))) × (length r ≡ 64) ⌝ }
-{
-    let mut products = [0u16; 64];
-    adapted(patterns, i, 0, &mut products, 0);
-    products
-}
-
-// The k-th product of round i + 1, where the list is the adapted list of the rows before it.
-fn product_at(i: usize, list: &[u16], k: usize) -> Product
-    requires { ⌜ (i ≤ 7) × Below (3 ^ i) (now list) × (k < 2 * length (now list)) ⌝ }
-    ensures { λ r. ⌜ r .0 ≡ productAt i (now (list .entry)) k ⌝ }
-{
-    let once = power(i);
-    let twice = 2 * once;
-    if k < list.len() {
-        return Product(list[k] + once);
-    }
-    Product(list[k - list.len()] + twice)
-}
-
 // Round i has ended with these rows, and the next round begins: its first product is asked.
-fn begin(run: Run, i: usize, points: u64, found: Rows) -> Answered
-    requires { ⌜ (i < run .polynomials) × (run .polynomials ≤ 8) × (points ≤ 64) × (run .asked < 128 * suc i) ⌝ }
+fn begin(mut run: Run, i: usize, points: u64, found: Rows) -> Answered
+    requires { ⌜ (run .phase ≡ goes-on) × (i < run .polynomials) × (run .polynomials ≤ 8) × (points ≤ 64) × (run .asked < 128 * suc i) ⌝ }
     requires { ⌜ (0 < found .number) × (found .number ≤ 64) ⌝ }
     requires { ⌜ Rising (take (found .number) (found .patterns)) × Below (3 ^ i) (take (found .number) (found .patterns)) ⌝ }
     ensures { λ r. ⌜ (stateOf (r .run), stepOf (r .step)) ≡ ended roundRows (runningState run) i points (heldRows found) false ⌝ }
@@ -321,52 +224,25 @@ fn begin(run: Run, i: usize, points: u64, found: Rows) -> Answered
     let n = found.number;
     let patterns = found.patterns;
     let counts = found.counts;
-    let products = products_of(i, &patterns[..n]);
-    let product = product_at(i, &products[..n], 0);
-    let answers = run.answers;
-    let next = Run {
-        polynomials: run.polynomials,
-        asked: run.asked + 1,
-        phase: Phase::Running,
-        round: i + 1,
-        points: points,
-        rows: n,
-        patterns: patterns,
-        counts: counts,
-        products: products,
-        answered: 0,
-        answers: answers,
-    };
+    let products = products_of(i, &patterns, n);
+    let product = product_at(i, &products, n, 0);
+    run.asked = run.asked + 1;
+    run.round = i + 1;
+    run.points = points;
+    run.rows = n;
+    run.patterns = patterns;
+    run.counts = counts;
+    run.products = products;
+    run.answered = 0;
     Answered {
-        run: next,
+        run: run,
         step: Step::Ask(product),
-    }
-}
-
-// The rows of round 0: so many points of pattern 0.
-fn first_rows(count: u16) -> Rows
-    ensures { λ r. ⌜ (heldRows r ≡ rowIf 0 count) × (r .number ≤ 1) × (0 < count → (r .number ≡ 1) × (take (r .number) (r .patterns) ≡ 0 ∷ [])) ⌝ }
-{
-    let patterns = [0u16; 64];
-    let mut counts = [0u16; 64];
-    counts[0] = count;
-    if count == 0 {
-        return Rows {
-            number: 0,
-            patterns: patterns,
-            counts: counts,
-        };
-    }
-    Rows {
-        number: 1,
-        patterns: patterns,
-        counts: counts,
     }
 }
 
 // The first answer: the number of points.
 fn first(run: Run, a: i64) -> Answered
-    requires { ⌜ (isSound run ≡ true) × (run .round ≡ 0) ⌝ }
+    requires { ⌜ (isRunning run ≡ true) × (run .round ≡ 0) ⌝ }
     ensures { λ r. ⌜ (stateOf (r .run), stepOf (r .step)) ≡ firstOf roundRows (runningState run) a ⌝ }
 {
     if a < 0 {
@@ -383,79 +259,27 @@ fn first(run: Run, a: i64) -> Answered
 }
 
 // The answer stored, and the next product of the round.
-fn go_on(run: Run, a: i64) -> Answered
-    requires { ⌜ (isSound run ≡ true) × (0 < run .round) × (run .answered + 1 < 2 * run .rows) ⌝ }
+fn go_on(mut run: Run, a: i64) -> Answered
+    requires { ⌜ (isRunning run ≡ true) × (0 < run .round) × (run .answered + 1 < 2 * run .rows) ⌝ }
+    requires { ⌜ natAbs a ≤ run .points ⌝ }
     ensures { λ r. ⌜ (stateOf (r .run), stepOf (r .step)) ≡ goOn roundRows (runningState run) (run .round - 1) (withAnswer run a) true ⌝ }
 {
-    let asked = run.asked;
     let k = run.answered;
-    let rows = run.rows;
-    let round = run.round;
-    let patterns = run.patterns;
-    let counts = run.counts;
-    let products = run.products;
-    let mut answers = run.answers;
-    answers[k] = a;
-    let product = product_at(round - 1, &products[..rows], k + 1);
-    let next = Run {
-        polynomials: run.polynomials,
-        asked: asked + 1,
-        phase: Phase::Running,
-        round: round,
-        points: run.points,
-        rows: rows,
-        patterns: patterns,
-        counts: counts,
-        products: products,
-        answered: k + 1,
-        answers: answers,
-    };
+    let asked = run.asked + 1;
+    let short = a as i8;
+    run.answers[k] = short;
+    run.answered = k + 1;
+    run.asked = asked;
+    let product = product_at(run.round - 1, &run.products, run.rows, k + 1);
     Answered {
-        run: next,
+        run: run,
         step: Step::Ask(product),
     }
 }
 
-// The rows after round i + 1, or that there are none.
-fn find_rows(i: usize, patterns: &[u16], counts: &[u16], answers: &[i64]) -> Found
-    requires { ⌜ (i ≤ 7) × (length (now counts) ≡ length (now patterns)) ⌝ }
-    ensures { λ r. ⌜ Ended i (now (patterns .entry)) (now (counts .entry)) (now (answers .entry)) (r .next) (r .patterns) (r .counts) ⌝ }
-    ensures { λ r. ⌜ length (r .patterns) ≡ 64 ⌝ }
-{
-    let mut new = [0u16; 64];
-    let mut numbers = [0u16; 64];
-    let next = next_rows(i, patterns, counts, answers, &mut new, &mut numbers);
-    Found {
-        next: next,
-        patterns: new,
-        counts: numbers,
-    }
-}
-
-// The rows after the round whose last answer is a.
-fn find(run: Run, a: i64) -> Found
-    requires { ⌜ (isSound run ≡ true) × (0 < run .round) × (run .answered + 1 ≡ 2 * run .rows) ⌝ }
-    ensures { λ r. ⌜ Left (roundRows (run .round - 1) (runningState run .rows) (withAnswer run a)) (r .next) (r .patterns) (r .counts) ⌝ }
-    ensures { λ r. ⌜ length (r .patterns) ≡ 64 ⌝ }
-{
-    let k = run.answered;
-    let rows = run.rows;
-    let round = run.round;
-    let patterns = run.patterns;
-    let counts = run.counts;
-    let mut answers = run.answers;
-    answers[k] = a;
-    find_rows(
-        round - 1,
-        &patterns[..rows],
-        &counts[..rows],
-        &answers[..k + 1],
-    )
-}
-
 // The round has ended with these rows: the run is done, or the next round begins.
 fn next_round(run: Run, found: Rows) -> Answered
-    requires { ⌜ (isSound run ≡ true) × (0 < run .round) × (0 < found .number) × (found .number ≤ 64) ⌝ }
+    requires { ⌜ (isRunning run ≡ true) × (0 < run .round) × (0 < found .number) × (found .number ≤ 64) ⌝ }
     requires { ⌜ Rising (take (found .number) (found .patterns)) × Below (3 ^ run .round) (take (found .number) (found .patterns)) ⌝ }
     ensures { λ r. ⌜ (stateOf (r .run), stepOf (r .step)) ≡ endRound roundRows (runningState run) (run .round - 1) (some (heldRows found)) ⌝ }
 {
@@ -468,10 +292,18 @@ fn next_round(run: Run, found: Rows) -> Answered
 
 // The last answer of a round.
 fn end_round(run: Run, a: i64) -> Answered
-    requires { ⌜ (isSound run ≡ true) × (0 < run .round) × (run .answered + 1 ≡ 2 * run .rows) ⌝ }
+    requires { ⌜ (isRunning run ≡ true) × (0 < run .round) × (run .answered + 1 ≡ 2 * run .rows) ⌝ }
     ensures { λ r. ⌜ (stateOf (r .run), stepOf (r .step)) ≡ goOn roundRows (runningState run) (run .round - 1) (withAnswer run a) false ⌝ }
 {
-    let after = find(run, a);
+    let after = find_rows(
+        run.round - 1,
+        &run.patterns,
+        &run.counts,
+        run.rows,
+        &run.answers,
+        run.answered,
+        a,
+    );
     let next = after.next;
     match next {
         Next::None => close(run, NO_COUNTS),
@@ -492,7 +324,7 @@ fn end_round(run: Run, a: i64) -> Answered
 
 // An answer after the first.
 fn later(run: Run, a: i64) -> Answered
-    requires { ⌜ (isSound run ≡ true) × (0 < run .round) ⌝ }
+    requires { ⌜ (isRunning run ≡ true) × (0 < run .round) ⌝ }
     ensures { λ r. ⌜ (stateOf (r .run), stepOf (r .step)) ≡ laterOf roundRows (runningState run) (run .round - 1) a ⌝ }
 {
     let points = run.points;
@@ -505,18 +337,6 @@ fn later(run: Run, a: i64) -> Answered
         return go_on(run, a);
     }
     end_round(run, a)
-}
-
-// An answer to a run that goes on.
-fn taken(run: Run, a: i64) -> Answered
-    requires { ⌜ isSound run ≡ true ⌝ }
-    ensures { λ r. ⌜ (stateOf (r .run), stepOf (r .step)) ≡ answerOf roundRows (runningState run) a ⌝ }
-{
-    let round = run.round;
-    if round == 0 {
-        return first(run, a);
-    }
-    later(run, a)
 }
 
 // An answer that comes too late: the record as it was, and 7.
@@ -535,17 +355,13 @@ fn late(run: Run) -> Answered
 pub fn answer(run: Run, a: i64) -> Answered
     ensures { λ r. ⌜ ((stateOf (r .run), stepOf (r .step)) ≡ answerOf roundRows (stateOf run) a) × (stepOf (r .step) ≡ refused late → r .run ≡ run) ⌝ }
 {
-    let phase = run.phase;
-    match phase {
-        Phase::Running => {
-            if sound(run) {
-                return taken(run, a);
-            }
-            late(run)
-        }
-        Phase::Done => late(run),
-        Phase::Closed => late(run),
+    if !running(run) {
+        return late(run);
     }
+    if run.round == 0 {
+        return first(run, a);
+    }
+    later(run, a)
 }
 
 // The same on a lent record: it is updated where it lies, and the step is returned.
@@ -557,17 +373,26 @@ pub fn answer_lent(run: &mut Run, a: i64) -> Step
     r.step
 }
 
+// The same by value, through the lent entry: a local record is lent to it.
+pub fn answer_through(run: Run, a: i64) -> Answered
+    ensures { λ t. ⌜ ((stateOf (t .run), stepOf (t .step)) ≡ answerOf roundRows (stateOf run) a) × (stepOf (t .step) ≡ refused late → t .run ≡ run) ⌝ }
+{
+    let mut kept = run;
+    let step = answer_lent(&mut kept, a);
+    Answered {
+        run: kept,
+        step: step,
+    }
+}
+
 // Whether the run is done, and its rows can be had.
 fn done(run: Run) -> bool
     ensures { λ r. ⌜ r ≡ isDone run ⌝ }
 {
-    let phase = run.phase;
-    let rows = run.rows;
-    match phase {
-        Phase::Running => false,
-        Phase::Done => rows <= MOST_ROWS,
-        Phase::Closed => false,
+    if run.phase != DONE {
+        return false;
     }
+    run.rows <= MOST_ROWS
 }
 
 // The row at position p of a run that is done: 7 before done and after closed, 14 past the last row.
@@ -581,11 +406,9 @@ pub fn fetch_row(run: Run, p: usize) -> Fetched
     if rows <= p {
         return Fetched::Refused(PAST_LAST);
     }
-    let patterns = run.patterns;
-    let counts = run.counts;
     let row = Row {
-        pattern: Pattern(patterns[p]),
-        count: counts[p],
+        pattern: Pattern(run.patterns[p]),
+        count: run.counts[p],
     };
     Fetched::Row(row)
 }
@@ -595,18 +418,6 @@ pub fn asked(run: Run) -> usize
     ensures { λ r. ⌜ r ≡ stateOf run .total ⌝ }
 {
     run.asked
-}
-
-// Writes the list to the front of out, which is as long or longer.
-fn copy_front(list: &[u16], out: &mut [u16])
-    requires { ⌜ length (now list) ≤ length (now out) ⌝ }
-    ensures { λ _. ⌜ now (out .exit) ≡ now (list .entry) ++ drop (length (now (list .entry))) (now (out .entry)) ⌝ }
-{
-    let mut k = 0;
-    while k < list.len() {
-        out[k] = list[k];
-        k += 1;
-    }
 }
 
 // Copies all rows of a run that is done to the two slices. Returns how many they are: 7 before done and after closed, 15 where a slice is
@@ -624,9 +435,7 @@ pub fn copy_rows(run: Run, patterns: &mut [u16], counts: &mut [u16]) -> Copied
     if counts.len() < rows {
         return Copied::Refused(TOO_SHORT);
     }
-    let p = run.patterns;
-    let c = run.counts;
-    copy_front(&p[..rows], patterns);
-    copy_front(&c[..rows], counts);
+    copy_front(&run.patterns, rows, patterns);
+    copy_front(&run.counts, rows, counts);
     Copied::Rows(rows)
 }

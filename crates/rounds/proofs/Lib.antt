@@ -7,6 +7,3 @@ pub mod Realized
 pub mod Moments
 pub mod RoundEnds
 pub mod RoundEdges
-pub mod FairLaws
-pub mod MomentLaws
-pub mod StepLaws

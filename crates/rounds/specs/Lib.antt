@@ -3,4 +3,3 @@ pub mod Rounds
 pub mod NextRows
 pub mod Moments
 pub mod RoundEnd
-pub mod Steps

@@ -4,20 +4,16 @@
 --                       most 64
 --   roundRows i R ws == the rows after round i + 1, from the rows R before it and its answers ws; none where R are no such rows, where ws are not
 --                       twice as many, or where no counts fit (10)
---   Ended i P C ws r P′ C′ == what the call leaves: the number of the new rows, their patterns and their counts, or that there are none
-use mathlib.Core.Path.{_≡_}
 use mathlib.Core.Bool.{Bool, true, cond, _&&_}
 use mathlib.Core.Option.{Option, some, none}
 use mathlib.Core.List.{List, [], _∷_}
 use Prim.Native.Nat.{ℕ, _+_, _*_, _^_}
 use lib.Dec.{eqb, leb, ltb}
 use lib.IntN.{ℤ}
-use lib.ListN.{length, take}
+use lib.ListN.{length}
 use Rattle.signs.specs.Lists.{isBelow, isRising}
-use Rattle.rounds.specs.Rows.{maxPoints, Row, patterns, counts, rowsWith}
+use Rattle.rounds.specs.Rows.{maxPoints, Row, patterns, counts}
 use Rattle.rounds.specs.Moments.{byMoments}
-use Rattle.rounds.specs.declared.Next.{Next}
-use Rattle.rounds.specs.declared.Next.the-variants.{Rows, None}
 
 unfoldable pub allPositive : List ℕ → Bool
 allPositive [] = true
@@ -32,11 +28,3 @@ properRows i R = isRising (patterns R) && (isBelow (3 ^ i) (patterns R) && (allP
 
 unfoldable pub roundRows : ℕ → List Row → List ℤ → Option (List Row)
 roundRows i R ws = cond (properRows i R && eqb (length ws) (2 * length R)) (byMoments i R ws) none
-
--- the new rows stand at the front of the two slices
-abbrev pub Left : Option (List Row) → Next → List ℕ → List ℕ → Type 0
-Left none r P′ C′ = r ≡ None
-Left (some R) r P′ C′ = (r ≡ Rows (length R)) × (take (length R) P′ ≡ patterns R) × (take (length R) C′ ≡ counts R)
-
-abbrev pub Ended : ℕ → List ℕ → List ℕ → List ℤ → Next → List ℕ → List ℕ → Type 0
-Ended i P C ws r P′ C′ = Left (roundRows i (rowsWith P C) ws) r P′ C′

@@ -31,17 +31,26 @@ and-true false b e = absurd (true≢false (sym e))
 
 -- ---- each below a bound
 
-pub below-next : (b k : ℕ) (l : List ℕ) → k < length l → getD l k 0 < b → isBelow b l ≡ isBelow b (drop k l) → isBelow b l ≡ isBelow b (drop (k + 1) l)
+-- a, the test of the numbers passed, with the one at k: what is left of the test of the list
+pub below-next : (b k : ℕ) (l : List ℕ) (a a′ : Bool) → k < length l → a′ ≡ (ltb (getD l k 0) b && a) → isBelow b l ≡ (a && isBelow b (drop k l))
+    → isBelow b l ≡ (a′ && isBelow b (drop (k + 1) l))
 unfolding isBelow
-below-next b k l h q e = e ∙ rw (add-one k, drop-cons l k 0 h) (and-true (ltb (getD l k 0) b) (isBelow b (drop (suc k) l)) (lt-ltb (getD l k 0) b q))
+below-next b k l a a′ h n e =
+    e ∙ rw (add-one k, drop-cons l k 0 h, n) (turned a (ltb (getD l k 0) b) (isBelow b (drop (suc k) l)))
+  where
+    turned : (x y z : Bool) → (x && (y && z)) ≡ ((y && x) && z)
+    turned true true z = refl
+    turned true false z = refl
+    turned false true z = refl
+    turned false false z = refl
 
-pub below-not : (b k : ℕ) (l : List ℕ) → k < length l → b ≤ getD l k 0 → isBelow b l ≡ isBelow b (drop k l) → false ≡ isBelow b l
+pub below-end : (b k : ℕ) (l : List ℕ) (a : Bool) → length l ≤ k → isBelow b l ≡ (a && isBelow b (drop k l)) → a ≡ isBelow b l
 unfolding isBelow
-below-not b k l h q e = sym (e ∙ rw (drop-cons l k 0 h) (and-false (ltb (getD l k 0) b) (isBelow b (drop (suc k) l)) (le-ltb (getD l k 0) b q)))
-
-pub below-end : (b k : ℕ) (l : List ℕ) → length l ≤ k → isBelow b l ≡ isBelow b (drop k l) → true ≡ isBelow b l
-unfolding isBelow
-below-end b k l h e = sym (e ∙ rw (drop-of-length-le l h) refl)
+below-end b k l a h e = sym (e ∙ rw (drop-of-length-le l h) (last a))
+  where
+    last : (x : Bool) → (x && true) ≡ x
+    last true = refl
+    last false = refl
 
 pub below-true : (b : ℕ) (l : List ℕ) → isBelow b l ≡ true → Below b l
 unfolding isBelow Below

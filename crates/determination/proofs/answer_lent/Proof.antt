@@ -8,7 +8,7 @@ use lib.IntN.{ℤ}
 use mir.Syntax.{named, w64}
 use mir.Val.{Val, vptr}
 use Rattle.rounds.specs.RoundEnd.{roundRows}
-use Rattle.determination.specs.Run.{answerOf, refused, late}
+use Rattle.runs.specs.Run.{answerOf, refused, late}
 use Rattle.determination.specs.Record.{stateOf, stepOf}
 use Rattle.determination.specs.declared.Run.{Run}
 use Rattle.determination.specs.declared.Answered.{Answered}

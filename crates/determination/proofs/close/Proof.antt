@@ -2,16 +2,16 @@
 use mathlib.Core.Path.{refl}
 use native.Mathlib.Numerals.{add-one}
 use borrow.Author.Needs.{needs}
-use Rattle.determination.specs.Record.{stateOf, stateIn}
+use Rattle.determination.specs.Record.{stateOf, isRunning, isDone}
 use Rattle.determination.proofs.close.Statement.{statement}
 use Rattle.determination.proofs.close.Tie as tie
 
-add-t8 : tie.Need-add-t8
-add-t8 c = search needs
+add-run : tie.Need-add-run
+add-run c = search needs
 
 returns : tie.Need-returns
-unfolding stateOf stateIn
+unfolding stateOf isRunning isDone
 returns c = rw (add-one) refl
 
 pub close-spec : {M : Type 1} → statement M
-close-spec = tie.close (tie.spec add-t8 returns)
+close-spec = tie.close (tie.spec add-run returns)

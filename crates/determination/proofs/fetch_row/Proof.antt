@@ -13,11 +13,11 @@ use Rattle.determination.proofs.fetch_row.Statement.{statement}
 use Rattle.determination.proofs.fetch_row.Tie as tie
 
 -- the run is done
-is-done : (c : tie.Else1) → isDone (c .before .before .args .run) ≡ true
+is-done : (c : tie.Else1) → isDone (c .before .before .args .t1) ≡ true
 is-done c = sym (c .before .done .ensures) ∙ not-false (c .before .done .result) (c .if1 .left)
 
-few : (c : tie.After-counts) → c .before .before .before .before .before .args .p < 64
-few c = omega (arith, done-phase (c .before .before .before .before .before .args .run) (is-done (c .before .before .before)) .1, c .before .before .if2 .left)
+few : (c : tie.Else2) → c .before .before .before .args .p < 64
+few c = omega (arith, done-phase (c .before .before .before .args .t1) (is-done (c .before)) .1, c .if2 .left)
 
 done-requires : tie.Need-done-requires
 done-requires c κs = search needs
@@ -25,29 +25,31 @@ done-requires c κs = search needs
 returns : tie.Need-returns
 returns c =
     let a = c .before .before .args in
-    fetch-late (a .run) (a .p) (sym (c .before .done .ensures) ∙ not-true (c .before .done .result) (c .if1 .taken))
+    fetch-late (a .t1) (a .p) (sym (c .before .done .ensures) ∙ not-true (c .before .done .result) (c .if1 .taken))
 
 returns-2 : tie.Need-returns-2
 returns-2 c =
     let st = c .before .before .before in
-    fetch-past (st .args .run) (is-done (c .before)) (lengths (st .args .run) (st .good .0) .patterns) (lengths (st .args .run) (st .good .0) .counts) (st .args .p) (c .if2 .taken)
+    let n = lengths (st .args .t1) (st .good .0) in
+    fetch-past (st .args .t1) (is-done (c .before)) (n .patterns) (n .counts) (st .args .p) (c .if2 .taken)
 
 mul-t9 : tie.Need-mul-t9
 mul-t9 c = omega (arith, few c)
 
-array-read-t12 : tie.Need-array-read-t12
-array-read-t12 c = omega (arith, few c)
+element-copy-out-t12 : tie.Need-element-copy-out-t12
+element-copy-out-t12 c = omega (arith, few c)
 
 mul-t14 : tie.Need-mul-t14
-mul-t14 c = omega (arith, few c)
+mul-t14 c = omega (arith, few (c .before))
 
-array-read-t17 : tie.Need-array-read-t17
-array-read-t17 c = omega (arith, few c)
+element-copy-out-t17 : tie.Need-element-copy-out-t17
+element-copy-out-t17 c = omega (arith, few (c .before))
 
 returns-3 : tie.Need-returns-3
 returns-3 c =
     let st = c .before .before .before .before .before in
-    fetch-at (st .args .run) (is-done (c .before .before .before)) (lengths (st .args .run) (st .good .0) .patterns) (lengths (st .args .run) (st .good .0) .counts) (st .args .p) (c .before .before .if2 .left)
+    let n = lengths (st .args .t1) (st .good .0) in
+    fetch-at (st .args .t1) (is-done (c .before .before .before)) (n .patterns) (n .counts) (st .args .p) (c .before .before .if2 .left)
 
 pub fetch-row-spec : {M : Type 1} → statement M
 fetch-row-spec =
@@ -57,7 +59,7 @@ fetch-row-spec =
     returns
     returns-2
     mul-t9
-    array-read-t12
+    element-copy-out-t12
     mul-t14
-    array-read-t17
+    element-copy-out-t17
     returns-3)

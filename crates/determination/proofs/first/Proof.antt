@@ -11,16 +11,16 @@ use mir.ValLaws.{toZ-ofZ}
 use Rattle.integers.proofs.Parts.{int}
 use Rattle.rounds.specs.RoundEnd.{roundRows}
 use Rattle.determination.specs.Record.{runningState}
-use Rattle.determination.proofs.Held.{rising-one, below-one}
-use Rattle.determination.proofs.Records.{sound-limits, sound-asked}
-use Rattle.determination.proofs.Steps.{first-below, first-above, first-some}
+use Rattle.runs.proofs.Held.{rising-one, below-one}
+use Rattle.determination.proofs.Records.{sound-limits, sound-asked, running-phase, running-sound}
+use Rattle.runs.proofs.Steps.{first-below, first-above, first-some}
 use Rattle.determination.proofs.first.Statement.{statement}
 use Rattle.determination.proofs.first.Tie as tie
 
 close-requires : tie.Need-close-requires
 close-requires c κs =
     let st = c .before in
-    sound-asked (st .args .run) (st .pre .0)
+    sound-asked (st .args .run) (running-sound (st .args .run) (st .pre .0))
 
 returns : tie.Need-returns
 returns c =
@@ -35,7 +35,7 @@ magnitude-requires c κs = search needs
 close-requires-2 : tie.Need-close-requires-2
 close-requires-2 c κs =
     let st = c .before .before .before in
-    sound-asked (st .args .run) (st .pre .0)
+    sound-asked (st .args .run) (running-sound (st .args .run) (st .pre .0))
 
 returns-2 : tie.Need-returns-2
 returns-2 c =
@@ -51,7 +51,7 @@ first-rows-requires c κs = search needs
 finish-requires : tie.Need-finish-requires
 finish-requires c κs =
     let st = c .before .before .before .before .before in
-    (sound-asked (st .args .run) (st .pre .0), omega arith)
+    (sound-asked (st .args .run) (running-sound (st .args .run) (st .pre .0)), omega arith)
 
 returns-3 : tie.Need-returns-3
 returns-3 c =
@@ -72,12 +72,12 @@ first-rows-requires-2 c κs = search needs
 begin-requires : tie.Need-begin-requires
 begin-requires c κs =
     let st = c .before .before .before .before .before in
-    let l = sound-limits (st .args .run) (st .pre .0) in
+    let l = sound-limits (st .args .run) (running-sound (st .args .run) (st .pre .0)) in
     let z = l .at-first (st .pre .1) in
     let m : 0 < c .before .before .before .magnitude .result = omega (arith, c .before .if3 .left) in
     let f = c .first-rows2 .ensures in
     let k = f .2 m in
-    ((omega arith, l .most, omega arith, omega arith), ((omega arith, omega arith), (rw (k .1) rising-one, rw (k .1) below-one)))
+    ((running-phase (st .args .run) (st .pre .0), omega arith, l .most, omega arith, omega arith), ((omega arith, omega arith), (rw (k .1) rising-one, rw (k .1) below-one)))
 
 returns-4 : tie.Need-returns-4
 returns-4 c =

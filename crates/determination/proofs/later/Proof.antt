@@ -9,9 +9,9 @@ use mir.ValLaws.{toZ-ofZ}
 use Rattle.rounds.specs.RoundEnd.{roundRows}
 use Rattle.determination.specs.Record.{runningState}
 use Rattle.determination.proofs.Lengths.{lengths}
-use Rattle.determination.proofs.Records.{sound-later}
+use Rattle.determination.proofs.Records.{later-from}
 use Rattle.determination.proofs.Rounds.{stored-length}
-use Rattle.determination.proofs.Steps.{later-out, later-on, later-end}
+use Rattle.runs.proofs.Steps.{later-out, later-on, later-end}
 use Rattle.determination.proofs.later.Statement.{statement}
 use Rattle.determination.proofs.later.Tie as tie
 
@@ -21,7 +21,7 @@ magnitude-requires c κs = search needs
 close-requires : tie.Need-close-requires
 close-requires c κs =
     let st = c .before .before in
-    let k = sound-later (st .args .run) (st .pre .0) (st .pre .1) in
+    let k = later-from (st .args .run) (st .pre .0) (st .pre .1) in
     omega arith
 
 returns : tie.Need-returns
@@ -33,13 +33,13 @@ returns c =
 add-if2 : tie.Need-add-if2
 add-if2 c =
     let st = c .before .before in
-    let k = sound-later (st .args .run) (st .pre .0) (st .pre .1) in
+    let k = later-from (st .args .run) (st .pre .0) (st .pre .1) in
     omega arith
 
 mul-if2 : tie.Need-mul-if2
 mul-if2 c =
     let st = c .before .before in
-    let k = sound-later (st .args .run) (st .pre .0) (st .pre .1) in
+    let k = later-from (st .args .run) (st .pre .0) (st .pre .1) in
     omega arith
 
 go-on-requires : tie.Need-go-on-requires
@@ -48,7 +48,7 @@ go-on-requires c κs = search needs
 returns-2 : tie.Need-returns-2
 returns-2 c =
     let st = c .before .before .before .before in
-    let k = sound-later (st .args .run) (st .pre .0) (st .pre .1) in
+    let k = later-from (st .args .run) (st .pre .0) (st .pre .1) in
     let n = lengths (st .args .run) (st .good .0) in
     let m = rw (toZ-ofZ w64 (st .args .a) (st .fits .a)) at (c .before .before .before .magnitude .ensures) in
     let p = length-take-le (st .args .run .rows) (st .args .run .products) (omega arith) in
@@ -58,13 +58,13 @@ returns-2 c =
 end-round-requires : tie.Need-end-round-requires
 end-round-requires c κs =
     let st = c .before .before .before in
-    let k = sound-later (st .args .run) (st .pre .0) (st .pre .1) in
+    let k = later-from (st .args .run) (st .pre .0) (st .pre .1) in
     (st .pre .0, st .pre .1, omega arith)
 
 returns-3 : tie.Need-returns-3
 returns-3 c =
     let st = c .before .before .before .before in
-    let k = sound-later (st .args .run) (st .pre .0) (st .pre .1) in
+    let k = later-from (st .args .run) (st .pre .0) (st .pre .1) in
     let n = lengths (st .args .run) (st .good .0) in
     let m = rw (toZ-ofZ w64 (st .args .a) (st .fits .a)) at (c .before .before .before .magnitude .ensures) in
     let p = length-take-le (st .args .run .rows) (st .args .run .products) (omega arith) in

@@ -3,14 +3,14 @@ use mathlib.Core.Path.{_≡_}
 use Prim.Native.Nat.{_-_, suc}
 use native.Mathlib.Omega.{arith}
 use borrow.Author.Tests.{eq-eqb, ne-eqb}
-use Rattle.determination.proofs.Records.{sound-later}
+use Rattle.determination.proofs.Records.{later-from, running-phase}
 use Rattle.determination.proofs.next_round.Statement.{statement}
 use Rattle.determination.proofs.next_round.Tie as tie
 
 finish-requires : tie.Need-finish-requires
 finish-requires c κs =
     let st = c .before .before in
-    let k = sound-later (st .args .run) (st .pre .0 .0) (st .pre .0 .1) in
+    let k = later-from (st .args .run) (st .pre .0 .0) (st .pre .0 .1) in
     omega arith
 
 returns : tie.Need-returns
@@ -22,9 +22,9 @@ returns c =
 begin-requires : tie.Need-begin-requires
 begin-requires c κs =
     let st = c .before .before in
-    let k = sound-later (st .args .run) (st .pre .0 .0) (st .pre .0 .1) in
+    let k = later-from (st .args .run) (st .pre .0 .0) (st .pre .0 .1) in
     let d = c .if1 .left in
-    ((omega arith, k .most, k .few-points, omega arith), ((st .pre .0 .2, st .pre .0 .3), st .pre .1))
+    ((running-phase (st .args .run) (st .pre .0 .0), omega arith, k .most, k .few-points, omega arith), ((st .pre .0 .2, st .pre .0 .3), st .pre .1))
 
 returns-2 : tie.Need-returns-2
 returns-2 c =

@@ -4,19 +4,18 @@ use mathlib.Core.Path.{_≡_, sym, _∙_}
 use native.Mathlib.Omega.{arith}
 use borrow.Author.Needs.{needs}
 use borrow.Author.Tests.{not-true, not-false}
-use lib.Seq.{length-take-le}
-use Rattle.determination.specs.Record.{inLimits}
+use Rattle.run_parts.specs.Parts.{inLimits}
 use Rattle.determination.proofs.Lengths.{lengths}
 use Rattle.determination.proofs.Records.{Limits, limits-from, test-limits, test-first, test-later}
 use Rattle.determination.proofs.sound.Statement.{statement}
 use Rattle.determination.proofs.sound.Tie as tie
 
 -- the numbers passed their test
-passed : (c : tie.Else1) → let r = c .before .before .args .run in
+passed : (c : tie.Else1) → let r = c .before .before .args .t1 in
     inLimits (r .polynomials) (r .asked) (r .round) (r .points) (r .rows) (r .answered) ≡ true
 passed c = sym (c .before .in-limits .ensures) ∙ not-false (c .before .in-limits .result) (c .if1 .left)
 
-limits : (c : tie.Else1) → let r = c .before .before .args .run in
+limits : (c : tie.Else1) → let r = c .before .before .args .t1 in
     Limits (r .polynomials) (r .asked) (r .round) (r .points) (r .rows) (r .answered)
 limits c = limits-from _ _ _ _ _ _ (passed c)
 
@@ -25,44 +24,33 @@ in-limits-requires c κs = search needs
 
 returns : tie.Need-returns
 returns c =
-    let r = c .before .before .args .run in
+    let r = c .before .before .args .t1 in
     test-limits r (sym (c .before .in-limits .ensures) ∙ not-true (c .before .in-limits .result) (c .if1 .taken))
 
 returns-2 : tie.Need-returns-2
-returns-2 c = test-first (c .before .before .before .args .run) (passed (c .before)) (c .if2 .taken)
-
-array-share-prefix-products : tie.Need-array-share-prefix-products
-array-share-prefix-products c =
-    let st = c .before .before .before .before in
-    let n = lengths (st .args .run) (st .good .0) in
-    let l = limits (c .before .before) in
-    omega arith
-
-slice-aggregate-all-below : tie.Need-slice-aggregate-all-below
-slice-aggregate-all-below c =
-    let st = c .before .before .before .before .before in
-    let n = lengths (st .args .run) (st .good .0) in
-    let l = limits (c .before .before .before) in
-    sym (length-take-le (st .args .run .rows) (st .args .run .products) (omega arith))
+returns-2 c = test-first (c .before .before .before .args .t1) (passed (c .before)) (c .if2 .taken)
 
 sub-power : tie.Need-sub-power
 sub-power c = search needs
 
 power-requires : tie.Need-power-requires
 power-requires c κs =
-    let st = c .before .before .before .before .before in
-    let l = limits (c .before .before .before) in
+    let l = limits (c .before .before .before .before) in
     omega arith
 
-all-below-requires : tie.Need-all-below-requires
-all-below-requires c κs = search needs
+front-below-requires : tie.Need-front-below-requires
+front-below-requires c κs =
+    let st = c .before .before .before .before .before .before .before in
+    let n = lengths (st .args .t1) (st .good .0) in
+    let l = limits (c .before .before .before .before .before) in
+    omega arith
 
 returns-3 : tie.Need-returns-3
 returns-3 c =
-    let st = c .before .before .before .before .before .before .before in
-    let r = st .args .run in
+    let st = c .before .before .before .before .before .before .before .before in
+    let r = st .args .t1 in
     let w = c .before .power .ensures in
-    c .all-below .ensures ∙ rw w (test-later r (passed (c .before .before .before .before .before)) (c .before .before .before .before .if2 .left))
+    c .front-below .ensures ∙ rw w (test-later r (passed (c .before .before .before .before .before .before)) (c .before .before .before .before .before .if2 .left))
 
 pub sound-spec : {M : Type 1} → statement M
 sound-spec =
@@ -71,9 +59,7 @@ sound-spec =
     in-limits-requires
     returns
     returns-2
-    array-share-prefix-products
-    slice-aggregate-all-below
     sub-power
     power-requires
-    all-below-requires
+    front-below-requires
     returns-3)

@@ -7,9 +7,9 @@ use borrow.Author.Tests.{le-leb, lt-leb}
 use lib.ListN.{take}
 use Rattle.rounds.specs.Rows.{rowsWith}
 use Rattle.determination.specs.Record.{runningState, startedOf}
-use Rattle.determination.specs.Run.{State, Step, ask, startOf}
+use Rattle.runs.specs.Run.{State, Step, ask, startOf}
 use Rattle.determination.specs.declared.Run.{Run}
-use Rattle.determination.proofs.Records.{first-sound, running-is, closed-is}
+use Rattle.determination.proofs.Records.{first-sound, running-is, running-to, closed-phase}
 use Rattle.determination.proofs.start.Statement.{statement}
 use Rattle.determination.proofs.start.Tie as tie
 
@@ -31,7 +31,7 @@ unfolding startedOf
 returns c =
     let r = c .fresh .result in
     let s = c .before .before .args .s in
-    let e = closed-is r (c .fresh .ensures .1) in
+    let e = closed-phase r (c .fresh .ensures .1) in
     rw (lt-leb 1 s (c .before .if1 .taken), e) (cc)
 
 fresh-requires-2 : tie.Need-fresh-requires-2
@@ -42,7 +42,7 @@ unfolding startedOf
 returns-2 c =
     let r = c .fresh2 .result in
     let s = c .before .before .before .args .s in
-    let e = closed-is r (c .fresh2 .ensures .1) in
+    let e = closed-phase r (c .fresh2 .ensures .1) in
     rw (le-leb 1 s (c .before .before .if1 .left), lt-leb s 8 (c .before .if2 .taken), e) (cc)
 
 fresh-requires-3 : tie.Need-fresh-requires-3
@@ -57,7 +57,7 @@ returns-3 c =
     let g = c .before .before .if1 .left in
     let h = c .before .if2 .left in
     let t = first-sound r s g h (k .0) (k .2) (k .3) (k .4) (k .5) (k .6) in
-    rw (le-leb 1 s g, le-leb s 8 h, running-is r (k .1) t) (fresh-running r s (k .0) (k .2) (k .3) (k .4) (k .5) (k .6))
+    rw (le-leb 1 s g, le-leb s 8 h, running-is r (running-to r (k .1) t)) (fresh-running r s (k .0) (k .2) (k .3) (k .4) (k .5) (k .6))
 
 pub start-spec : {M : Type 1} → statement M
 start-spec =

@@ -1,0 +1,18 @@
+-- `determination::running` meets its contract. Assumes nothing.
+use mathlib.Core.Path.{_∙_}
+use borrow.Author.Needs.{needs}
+use Rattle.determination.proofs.Records.{test-phase, test-running}
+use Rattle.determination.proofs.running.Statement.{statement}
+use Rattle.determination.proofs.running.Tie as tie
+
+returns : tie.Need-returns
+returns c = test-phase (c .before .before .args .run) (c .if1 .taken)
+
+sound-requires : tie.Need-sound-requires
+sound-requires c κs = search needs
+
+returns-2 : tie.Need-returns-2
+returns-2 c = c .sound .ensures ∙ test-running (c .before .before .before .args .run) (c .before .if1 .left)
+
+pub running-spec : {M : Type 1} → statement M
+running-spec = tie.close (tie.spec returns sound-requires returns-2)

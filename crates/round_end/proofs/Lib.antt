@@ -1,0 +1,3 @@
+pub mod FairLaws
+pub mod StepLaws
+pub mod MomentLaws

@@ -1,0 +1,13 @@
+pub mod Held
+pub mod Ends
+pub mod Steps
+pub mod Phases
+pub mod Invariant
+pub mod Story
+pub mod DemandThree
+pub mod Reached
+pub mod Chains
+pub mod Truthful
+pub mod Refusals
+pub mod Edges
+pub mod Starred

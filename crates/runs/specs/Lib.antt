@@ -1,0 +1,5 @@
+pub mod Run
+pub mod Demand
+pub mod Truthful
+pub mod Refusals
+pub mod Reached
