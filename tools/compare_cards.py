@@ -223,14 +223,11 @@ def changed(card, *damages):
     return card
 
 
-def damaged(rng, base, everywhere):
-    """Of a sound card: every cause at every place, as many pairs of them, and for one in three every cut and every changed byte."""
+def damaged(rng, base):
+    """Of a sound card: every cause at every place, as many pairs of them, every cut and every changed byte."""
     single = causes(base)
     pairs = [rng.sample(single, 2) for _ in single]
-    drawn = [changed(base, d) for d in single] + [changed(base, *d) for d in pairs]
-    if everywhere:
-        drawn += [changed(base, d) for d in cuts(base) + changes(rng, base)]
-    return drawn
+    return [changed(base, d) for d in single + cuts(base) + changes(rng, base)] + [changed(base, *d) for d in pairs]
 
 
 # ---- the comparison
@@ -262,7 +259,7 @@ def difference(batch, expected, written):
             if got != line:
                 return 'card %s\n  must be: %s\n  is:      %s' % (card.hex(), line, got)
             at += 1
-    return 'more lines than there should be: %s' % written[at]
+    return 'after the last line: %s' % (written[at:at + 1] or 'the program failed')
 
 
 def compare(cards):
@@ -293,16 +290,17 @@ def draw(seed, sounds, bases):
         whole.append((sound(rng, s, n), products(rng, s)))
     for i in range(bases):
         base = sound(rng, 1 + i % 8, rng.choice([0, 1, 2, 3, 5, 9, 17, 64]))
-        broken += [(card, [rng.randrange(27), 65535]) for card in damaged(rng, base, i % 3 == 0)]
+        broken += [(card, [rng.randrange(27), 65535]) for card in damaged(rng, base)]
     return whole, broken
 
 
 def show(seed, sounds, bases):
+    """Compares and prints the counts: of the damaged cards some are sound, as one with another coefficient."""
     whole, broken = draw(seed, sounds, bases)
     seen = compare(whole + broken)
     asked = sum(len(products) for _, products in whole + broken)
     found = ', '.join('%s: %d' % (key, seen[key]) for key in sorted(seen))
-    print('compare_cards: %d sound and %d damaged cards, %d queries, no difference (%s)' % (len(whole), len(broken), asked, found))
+    print('compare_cards: %d sound and %d damaged cards, %d queries, no difference (by number %s)' % (len(whole), len(broken), asked, found))
 
 
 # ---- the committed file
@@ -316,7 +314,7 @@ def committed():
     largest = write([[LARGEST] * 7] * 8, [FURTHEST] * 64)
     least = write([[0]], [])
     cards = [(b'', [0]), (b'\1', [0]), (example, list(range(27)) + [27, 65535]), (eight, [6560, 6561]), (largest, [0, 1, 6560, 6561]), (least, [0, 1, 2, 3])]
-    cards += [(card, [0, 27]) for card in damaged(rng, example, True)]
+    cards += [(card, [0, 27]) for card in damaged(rng, example)]
     for i in range(64):
         cards.append((sound(rng, 1 + i % 8, i), [0, 1, 3 ** (1 + i % 8) - 1, 3 ** (1 + i % 8)]))
     return cards
@@ -336,7 +334,7 @@ def store():
 def main(arguments):
     if arguments == ['--data']:
         return store()
-    numbers = [int(a) for a in arguments] + [593, 2080, 48][len(arguments):]
+    numbers = [int(a) for a in arguments] + [593, 2080, 36][len(arguments):]
     return show(*numbers)
 
 

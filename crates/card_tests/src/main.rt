@@ -10,7 +10,6 @@ use card::Evaluated;
 use card::Stretch;
 use libc::STDOUT_FILENO;
 use query::Answer;
-use query::Opened;
 use signs::Product;
 
 fn put(b: u8) {
@@ -118,11 +117,11 @@ fn print_answer(answer: Answer) {
 }
 
 // The product, and its query on the card in one call and on the opened card.
-fn print_query(card: &[u8], opened: Opened, a: u16) {
+fn print_query(card: &[u8], a: u16) {
     put(b'Q');
     print_number(a as u64);
     print_answer(query::query(card, Product(a)));
-    print_answer(query::ask(opened, Product(a)));
+    print_answer(query::ask(query::open(card), Product(a)));
     put(b'\n');
 }
 
@@ -135,10 +134,9 @@ fn pair(bytes: &[u8], at: usize) -> usize
 }
 
 fn print_queries(card: &[u8], products: &[u8]) {
-    let opened = query::open(card);
     let mut at = 0;
     while 2 <= products.len() - at {
-        print_query(card, opened, pair(products, at) as u16);
+        print_query(card, pair(products, at) as u16);
         at += 2;
     }
 }

@@ -6,13 +6,10 @@ use Rattle.card_tests.proofs.print_queries.Statement.{statement}
 use Rattle.card_tests.proofs.print_queries.Tie as tie
 
 abbrev Inv-loop : tie.InvT-loop
-Inv-loop card products opened at₀ at = at ≤ length products
+Inv-loop card products at₀ at = at ≤ length products
 
 abbrev μ-loop : tie.MeasureT-loop
-μ-loop card products opened at₀ at = length products - at
-
-open-requires : tie.Need-open-requires Inv-loop μ-loop
-open-requires c κs = tt
+μ-loop card products at₀ at = length products - at
 
 loop-holds : tie.Need-loop-holds Inv-loop μ-loop
 loop-holds c = omega arith
@@ -47,7 +44,6 @@ print-queries-spec =
     (tie.spec
     Inv-loop
     μ-loop
-    open-requires
     loop-holds
     sub-loop
     pair-requires
