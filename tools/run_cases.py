@@ -13,17 +13,15 @@ from its answers alone (`Judged`): after each round the whole system, one equati
 extended by the three signs, is solved by elimination over the fractions. There are no moments, no recursion and no solver of rows. Short
 truthful runs are worked out both ways, and must agree.
 
-A file is one item after the other. Numbers have the high byte first. Every item is one call; bytes 1 and 2 are the question total after it.
+A file is one item after the other, and an item is one call. Numbers have the high byte first.
 
-    start          129, total, s (8 bytes), step (2)
-    short answer   the answer plus 64 (0 to 128), total, step (2)
-    long answer    130, total, answer (8, two's complement), step (2)
-    fetch          131, total, position (1), pattern (2), count (2)
-    far fetch      132, total, position (8), pattern (2), count (2)
-    copy           133, total, the lengths of the two slices (1 and 1), how many rows (2), the patterns (2 each), the counts (2 each)
-
-A step is a product, or DONE. In place of a step, of a pattern (then the count is 0) and of how many rows (then none follow), REFUSED plus k
-says that the call is refused by k.
+    byte 0         the answer plus 64 (0 to 128), or START, FETCH, COPY, or ANSWER, an answer of eight bytes
+    bytes 1, 2     the question total after the call; plus TOTALS where it gives done, plus twice TOTALS where it is refused
+    bytes 3, 4     the product, the pattern, how many rows are copied, or the refusal number
+    START          s (8 bytes)
+    ANSWER         the answer (8, two's complement)
+    FETCH          the position (8), the count (2)
+    COPY           the lengths of the two slices (1 and 1), and, where rows are copied, the patterns (2 each) and the counts (2 each)
 """
 
 import random
@@ -36,8 +34,9 @@ from adapted_lists import HEAVIEST, ROOM, SIGNS, digits, first_independent
 
 MOST_POLYNOMIALS = 8
 MOST_POINTS = 64
-START, ANSWER, FETCH, FETCH_FAR, COPY = range(129, 134)
-DONE, REFUSED = 16384, 32768
+START, FETCH, COPY, ANSWER = range(129, 133)
+DONE, REFUSED = 65536, 131072  # what a call gives, as one number: a refusal is REFUSED plus k
+TOTALS = 1024
 HIGHEST, LOWEST = 2**63 - 1, -(2**63)
 SHORT_RUN = 8  # patterns of a truthful run that is worked out both ways
 
@@ -51,56 +50,41 @@ class Tape:
     def __init__(self):
         self.out, self.counts = bytearray(), Counter()
 
-    def put(self, kind, total, *parts):
-        self.out += bytes((kind,)) + total.to_bytes(2, "big")
-        for number, width in parts:
-            self.out += (number % 256**width).to_bytes(width, "big")
-
-    def note(self, result):
+    def put(self, kind, name, run, result, *parts):
+        self.counts[name] += 1
         if result == DONE:
             self.counts["done"] += 1
         if result >= REFUSED:
             self.counts[result - REFUSED] += 1
+        numbers = (kind, 1), (run.total + result // DONE * TOTALS, 2), (result % DONE, 2), *parts
+        for number, width in numbers:
+            self.out += (number % 256**width).to_bytes(width, "big")
 
     def start(self, run):
-        self.counts["runs"] += 1
-        self.note(run.step)
-        self.put(START, run.total, (run.s, 8), (run.step, 2))
+        self.put(START, "runs", run, run.step, (run.s, 8))
 
     def answer(self, run, a):
         step = run.answer(a)
-        self.counts["answers"] += 1
-        self.note(step)
         if abs(a) <= MOST_POINTS:
-            self.put(a + MOST_POINTS, run.total, (step, 2))
+            self.put(a + MOST_POINTS, "answers", run, step)
         else:
-            self.put(ANSWER, run.total, (a, 8), (step, 2))
+            self.put(ANSWER, "answers", run, step, (a, 8))
         return step
 
     def fetch(self, run, p):
-        if run.key is None:
-            row = (REFUSED + 7, 0)
-        elif p >= len(run.key):
-            row = (REFUSED + 14, 0)
-        else:
-            row = run.key[p]
-        self.counts["fetches"] += 1
-        self.note(row[0])
-        kind, width = (FETCH, 1) if p < 256 else (FETCH_FAR, 8)
-        self.put(kind, run.total, (p, width), (row[0], 2), (row[1], 2))
+        pattern, count = REFUSED + 7, 0
+        if run.key is not None:
+            pattern, count = run.key[p] if p < len(run.key) else (REFUSED + 14, 0)
+        self.put(FETCH, "fetches", run, pattern, (p, 8), (count, 2))
 
     def copy(self, run, patterns, counts):
-        rows = []
-        if run.key is None:
-            result = REFUSED + 7
-        elif min(patterns, counts) < len(run.key):
+        result, rows = REFUSED + 7, []
+        if run.key is not None:
             result = REFUSED + 15
-        else:
-            result, rows = len(run.key), run.key
-        self.counts["copies"] += 1
-        self.note(result)
+            if len(run.key) <= min(patterns, counts):
+                result, rows = len(run.key), run.key
         numbers = [p for p, _ in rows] + [c for _, c in rows]
-        self.put(COPY, run.total, (patterns, 1), (counts, 1), (result, 2), *((x, 2) for x in numbers))
+        self.put(COPY, "copies", run, result, (patterns, 1), (counts, 1), *((x, 2) for x in numbers))
 
 
 # ---- runs
@@ -478,9 +462,9 @@ def false_file(rng):
 
 def report(counts):
     """What the program must print."""
-    lines = [f"{name} {counts[name]}" for name in ("runs", "answers", "fetches", "copies", "done")]
-    lines += [f"{'closed' if k in (8, 9, 10) else 'refused'} by {k}: {counts[k]}" for k in (3, 7, 8, 9, 10, 14, 15)]
-    return "\n".join(lines + ["differ 0", ""])
+    lines = [f"{name} {counts[name]}" for name in ("runs", "answers", "fetches", "copies", "done")] + ["differ 0"]
+    lines += [f"refused by {k}: {counts[k]}" for k in range(16) if counts[k]]
+    return "\n".join(lines) + "\n"
 
 
 def main(seed, crate):

@@ -10,31 +10,29 @@ ghost use mathlib.Core.Path.{_≡_};
 ghost use Prim.Native.Nat.{_+_, _*_, _≤_, _<_};
 ghost use lib.ListN.{length};
 
-// The items of a file: an answer of one byte has the answer itself, with SHORT_ZERO added, for its first byte; any other item has one of these.
+// The first byte of an item. Up to LONGEST_SHORT it is an answer, with SHORT_ZERO added; above COPY, the item is an answer of eight bytes.
 const SHORT_ZERO: u64 = 64;
 
 const LONGEST_SHORT: u8 = 128;
 
 const START: u8 = 129;
 
-const ANSWER: u8 = 130;
+const FETCH: u8 = 130;
 
-const FETCH: u8 = 131;
+const COPY: u8 = 131;
 
-const FETCH_FAR: u8 = 132;
+// What a call gives, as one number: the product, pattern or number of rows as it is, DONE, or REFUSED with the refusal number added.
+const DONE: u64 = 65536;
 
-const COPY: u8 = 133;
+const REFUSED: u64 = 131072;
 
-// How a step, a row or a copy is stored: a number below DONE, which is a product, a pattern or how many rows, DONE, or REFUSED with the
-// refusal number added.
-const DONE: u16 = 16384;
-
-const REFUSED: u16 = 32768;
+// One more than any question total.
+const TOTALS: u64 = 1024;
 
 // What is in the lent slices before a copy. No pattern and no count is this.
 const FILLER: u16 = 43690;
 
-// As many as any slice that a file asks for, and one more.
+// One more than the length of any slice that is lent.
 const ROOM: usize = 256;
 
 // What is counted: under a refusal number, how often it came; under the others, what their names say.
@@ -54,7 +52,7 @@ const DIFFERENT: usize = 21;
 
 const KINDS: usize = 22;
 
-// ---- numbers of a file
+// ---- numbers of an item
 
 fn wide(x: u8) -> u64
     ensures { λ r. ⌜ r < 256 ⌝ }
@@ -70,7 +68,7 @@ fn byte(item: &[u8], at: usize) -> u8 {
     0
 }
 
-// The number in the two bytes at a place, high byte first.
+// The number in the two bytes at a place, high byte first; in four bytes; in eight.
 fn pair(item: &[u8], at: usize) -> u64
     requires { ⌜ at < 65536 ⌝ }
     ensures { λ r. ⌜ r < 65536 ⌝ }
@@ -78,24 +76,17 @@ fn pair(item: &[u8], at: usize) -> u64
     256 * wide(byte(item, at)) + wide(byte(item, at + 1))
 }
 
-fn number(item: &[u8], at: usize) -> u16
-    requires { ⌜ at < 65536 ⌝ }
-{
-    pair(item, at) as u16
-}
-
-// The same of four bytes, and of eight.
-fn half(item: &[u8], at: usize) -> u64
-    requires { ⌜ at < 65000 ⌝ }
+fn four(item: &[u8], at: usize) -> u64
+    requires { ⌜ at < 256 ⌝ }
     ensures { λ r. ⌜ r < 4294967296 ⌝ }
 {
     65536 * pair(item, at) + pair(item, at + 2)
 }
 
-fn long(item: &[u8], at: usize) -> u64
-    requires { ⌜ at < 60000 ⌝ }
+fn eight(item: &[u8], at: usize) -> u64
+    requires { ⌜ at < 128 ⌝ }
 {
-    4294967296 * half(item, at) + half(item, at + 4)
+    4294967296 * four(item, at) + four(item, at + 4)
 }
 
 // The signed number with these bits.
@@ -104,6 +95,15 @@ fn signed(bits: u64) -> i64 {
         return bits as i64;
     }
     -1 - ((18446744073709551615 - bits) as i64)
+}
+
+// What the item says that its call gives, and the question total after it.
+fn stored(item: &[u8]) -> u64 {
+    DONE * (pair(item, 1) / TOTALS) + pair(item, 3)
+}
+
+fn total(item: &[u8]) -> u64 {
+    pair(item, 1) % TOTALS
 }
 
 // ---- counts
@@ -119,9 +119,16 @@ fn note(tally: &mut [usize; KINDS], kind: usize) {
     }
 }
 
-fn note_refusal(tally: &mut [usize; KINDS], k: u16) {
-    if (k as usize) < REFUSALS {
-        note(tally, k as usize);
+fn note_result(tally: &mut [usize; KINDS], result: u64) {
+    if result == DONE {
+        return note(tally, ENDED_DONE);
+    }
+    if result < REFUSED {
+        return;
+    }
+    let k = (result - REFUSED) as usize;
+    if k < REFUSALS {
+        note(tally, k);
     }
 }
 
@@ -131,73 +138,73 @@ fn compare(tally: &mut [usize; KINDS], is_right: bool) {
     }
 }
 
-// Whether a refusal by k is what is stored.
-fn is_refusal(k: u16, stored: u16) -> bool {
-    if stored < REFUSED {
-        return false;
-    }
-    stored - REFUSED == k
+// Counts what a call gave, and whether it is what the item says.
+fn take(tally: &mut [usize; KINDS], item: &[u8], result: u64) {
+    note_result(tally, result);
+    compare(tally, result == stored(item));
 }
 
-// ---- starts and answers
+// ---- the calls
 
-fn is_step(step: Step, stored: u16) -> bool {
+fn step_result(step: Step) -> u64 {
     match step {
-        Step::Ask(p) => p.0 < DONE && p.0 == stored,
-        Step::Done => stored == DONE,
-        Step::Refused(k) => is_refusal(k, stored),
+        Step::Ask(p) => p.0 as u64,
+        Step::Done => DONE,
+        Step::Refused(k) => REFUSED + k as u64,
     }
 }
 
-fn note_step(tally: &mut [usize; KINDS], step: Step) {
-    match step {
-        Step::Ask(p) => {}
-        Step::Done => note(tally, ENDED_DONE),
-        Step::Refused(k) => note_refusal(tally, k),
+// The start or the answer that the item asks for.
+fn made(item: &[u8], run: Run) -> Answered {
+    let kind = byte(item, 0);
+    if kind <= LONGEST_SHORT {
+        let bits = std::num::wrapping_sub_u64(wide(kind), SHORT_ZERO);
+        return determination::answer(run, signed(bits));
     }
+    if kind == START {
+        return determination::start(eight(item, 5) as usize);
+    }
+    determination::answer(run, signed(eight(item, 5)))
 }
 
-// Compares a step with the one stored, counts it and gives the record.
-fn take_step(tally: &mut [usize; KINDS], got: Answered, stored: u16) -> Run {
+fn play_step(item: &[u8], run: Run, tally: &mut [usize; KINDS]) -> Run {
+    let got = made(item, run);
     let step = got.step;
-    compare(tally, is_step(step, stored));
-    note_step(tally, step);
+    take(tally, item, step_result(step));
     got.run
 }
 
-fn play_start(item: &[u8], tally: &mut [usize; KINDS]) -> Run {
-    note(tally, RUNS);
-    take_step(
-        tally,
-        determination::start(long(item, 3) as usize),
-        number(item, 11),
-    )
-}
-
-fn play_answer(run: Run, a: i64, stored: u16, tally: &mut [usize; KINDS]) -> Run {
-    note(tally, ANSWERS);
-    take_step(tally, determination::answer(run, a), stored)
-}
-
-// ---- rows
-
-fn play_fetch(run: Run, p: usize, pattern: u16, count: u16, tally: &mut [usize; KINDS]) {
-    note(tally, FETCHES);
-    match determination::fetch_row(run, p) {
-        Fetched::Row(row) => compare(tally, row.pattern.0 == pattern && row.count == count),
-        Fetched::Refused(k) => {
-            note_refusal(tally, k);
-            compare(tally, is_refusal(k, pattern));
+fn play_fetch(item: &[u8], run: Run, tally: &mut [usize; KINDS]) {
+    match determination::fetch_row(run, eight(item, 5) as usize) {
+        Fetched::Row(row) => {
+            take(tally, item, row.pattern.0 as u64);
+            compare(tally, row.count as u64 == pair(item, 13));
         }
+        Fetched::Refused(k) => take(tally, item, REFUSED + k as u64),
     }
 }
 
-// What a lent slice is to hold at k after a copy: one of the n numbers stored from a place on, or what it held.
+fn copy_result(copied: Copied) -> u64 {
+    match copied {
+        Copied::Rows(n) => n as u64,
+        Copied::Refused(k) => REFUSED + k as u64,
+    }
+}
+
+// How many rows the item has for a copy: none where it is refused.
+fn rows_stored(item: &[u8]) -> usize
+    ensures { λ r. ⌜ r < 256 ⌝ }
+{
+    let n = stored(item) as usize;
+    if n < ROOM { n } else { 0 }
+}
+
+// What a lent array is to hold at k after a copy: one of the n numbers from a place on, or what it held.
 fn left(item: &[u8], at: usize, n: usize, k: usize) -> u16
     requires { ⌜ (at < 1024) × (k < 256) ⌝ }
 {
     if k < n {
-        return number(item, at + 2 * k);
+        return pair(item, at + 2 * k) as u16;
     }
     FILLER
 }
@@ -216,41 +223,21 @@ fn is_left(item: &[u8], at: usize, n: usize, list: &[u16; ROOM]) -> bool
     true
 }
 
-// How many rows are stored for a copy: none where it is refused.
-fn rows_stored(item: &[u8]) -> usize
-    ensures { λ r. ⌜ r < 256 ⌝ }
-{
-    let n = pair(item, 5) as usize;
-    if n < ROOM { n } else { 0 }
-}
-
-// Room for a copy, filled.
 fn filled() -> [u16; ROOM]
     ensures { λ r. ⌜ 256 ≡ length r ⌝ }
 {
     [FILLER; ROOM]
 }
 
-fn take_copied(tally: &mut [usize; KINDS], copied: Copied, stored: u16) {
-    match copied {
-        Copied::Rows(n) => compare(tally, n < ROOM && n == stored as usize),
-        Copied::Refused(k) => {
-            note_refusal(tally, k);
-            compare(tally, is_refusal(k, stored));
-        }
-    }
-}
-
-// Copies all rows to slices of the lengths stored, which are parts of longer arrays.
-fn play_copy(run: Run, item: &[u8], tally: &mut [usize; KINDS]) {
-    note(tally, COPIES);
-    let a = wide(byte(item, 3)) as usize;
-    let b = wide(byte(item, 4)) as usize;
+// Copies all rows to slices of the item's two lengths, which are parts of longer arrays.
+fn play_copy(item: &[u8], run: Run, tally: &mut [usize; KINDS]) {
+    let a = wide(byte(item, 5)) as usize;
+    let b = wide(byte(item, 6)) as usize;
     let n = rows_stored(item);
     let mut patterns = filled();
     let mut counts = filled();
     let copied = determination::copy_rows(run, &mut patterns[..a], &mut counts[..b]);
-    take_copied(tally, copied, number(item, 5));
+    take(tally, item, copy_result(copied));
     compare(tally, is_left(item, 7, n, &patterns));
     compare(tally, is_left(item, 7 + 2 * n, n, &counts));
 }
@@ -265,55 +252,37 @@ fn size(item: &[u8]) -> usize
     if kind <= LONGEST_SHORT {
         return 5;
     }
-    match kind {
-        START => 13,
-        ANSWER => 13,
-        FETCH => 8,
-        FETCH_FAR => 15,
-        COPY => 7 + 4 * rows_stored(item),
-        _ => 1,
+    if kind == FETCH {
+        return 15;
+    }
+    if kind == COPY {
+        return 7 + 4 * rows_stored(item);
+    }
+    13
+}
+
+// Which count an item adds to.
+fn kind_of(item: &[u8]) -> usize {
+    match byte(item, 0) {
+        START => RUNS,
+        FETCH => FETCHES,
+        COPY => COPIES,
+        _ => ANSWERS,
     }
 }
 
 // Makes the call of an item, and compares what it gives. The record after it.
 fn play(item: &[u8], run: Run, tally: &mut [usize; KINDS]) -> Run {
     let kind = byte(item, 0);
-    if kind <= LONGEST_SHORT {
-        let bits = std::num::wrapping_sub_u64(wide(kind), SHORT_ZERO);
-        return play_answer(run, signed(bits), number(item, 3), tally);
+    if kind == FETCH {
+        play_fetch(item, run, tally);
+        return run;
     }
-    match kind {
-        START => play_start(item, tally),
-        ANSWER => play_answer(run, signed(long(item, 3)), number(item, 11), tally),
-        FETCH => {
-            play_fetch(
-                run,
-                wide(byte(item, 3)) as usize,
-                number(item, 4),
-                number(item, 6),
-                tally,
-            );
-            run
-        }
-        FETCH_FAR => {
-            play_fetch(
-                run,
-                long(item, 3) as usize,
-                number(item, 11),
-                number(item, 13),
-                tally,
-            );
-            run
-        }
-        COPY => {
-            play_copy(run, item, tally);
-            run
-        }
-        _ => {
-            note(tally, DIFFERENT);
-            run
-        }
+    if kind == COPY {
+        play_copy(item, run, tally);
+        return run;
     }
+    play_step(item, run, tally)
 }
 
 // Plays all items of a file, from a record that no run has begun with. After each the question total is compared.
@@ -325,16 +294,20 @@ fn play_all(file: &[u8], tally: &mut [usize; KINDS])
     while at < file.len() {
         let item = &file[at..];
         run = play(item, run, tally);
-        compare(tally, determination::asked(run) as u64 == pair(item, 1));
+        note(tally, kind_of(item));
+        compare(tally, determination::asked(run) as u64 == total(item));
         at += size(item);
     }
     compare(tally, at == file.len());
 }
 
-fn play_file(path: &[u8], tally: &mut [usize; KINDS]) {
-    let fd = os::open_read(path);
+// Plays the file that argument i names.
+fn play_argument(i: usize, tally: &mut [usize; KINDS]) {
+    let mut path = io::buffer();
+    let length = os::arg(i, &mut path);
+    let fd = os::open_read(&path[..length]);
     if fd < 0 {
-        os::fail(path);
+        os::fail(&path[..length]);
         return;
     }
     let mut file = io::large_buffer();
@@ -355,21 +328,23 @@ fn print_counts(tally: &[usize; KINDS]) {
     print_count(b"fetches ", tally[FETCHES]);
     print_count(b"copies ", tally[COPIES]);
     print_count(b"done ", tally[ENDED_DONE]);
-    print_count(b"refused by 3: ", tally[3]);
-    print_count(b"refused by 7: ", tally[7]);
-    print_count(b"closed by 8: ", tally[8]);
-    print_count(b"closed by 9: ", tally[9]);
-    print_count(b"closed by 10: ", tally[10]);
-    print_count(b"refused by 14: ", tally[14]);
-    print_count(b"refused by 15: ", tally[15]);
     print_count(b"differ ", tally[DIFFERENT]);
 }
 
-// Plays the file that argument i names.
-fn play_argument(i: usize, tally: &mut [usize; KINDS]) {
-    let mut path = io::buffer();
-    let length = os::arg(i, &mut path);
-    play_file(&path[..length], tally);
+fn print_refusal(k: usize, n: usize) {
+    if 0 < n {
+        io::write_all(STDOUT_FILENO, b"refused by ");
+        io::print_decimal(STDOUT_FILENO, k as u64);
+        print_count(b": ", n);
+    }
+}
+
+fn print_refusals(tally: &[usize; KINDS]) {
+    let mut k = 0;
+    while k < REFUSALS {
+        print_refusal(k, tally[k]);
+        k += 1;
+    }
 }
 
 fn main() {
@@ -378,4 +353,5 @@ fn main() {
     play_argument(2, &mut tally);
     play_argument(3, &mut tally);
     print_counts(&tally);
+    print_refusals(&tally);
 }

@@ -5,29 +5,26 @@ use borrow.Author.Needs.{needs}
 use Rattle.run_tests.proofs.play_copy.Statement.{statement}
 use Rattle.run_tests.proofs.play_copy.Tie as tie
 
-note-requires : tie.Need-note-requires
-note-requires c κs = search needs
-
 byte-requires : tie.Need-byte-requires
-byte-requires c κs = search needs
+byte-requires c κs = tt
 
 wide-requires : tie.Need-wide-requires
-wide-requires c κs = search needs
+wide-requires c κs = tt
 
 byte-requires-2 : tie.Need-byte-requires-2
-byte-requires-2 c κs = search needs
+byte-requires-2 c κs = tt
 
 wide-requires-2 : tie.Need-wide-requires-2
-wide-requires-2 c κs = search needs
+wide-requires-2 c κs = tt
 
 rows-stored-requires : tie.Need-rows-stored-requires
-rows-stored-requires c κs = search needs
+rows-stored-requires c κs = tt
 
 filled-requires : tie.Need-filled-requires
-filled-requires c κs = search needs
+filled-requires c κs = tt
 
 filled-requires-2 : tie.Need-filled-requires-2
-filled-requires-2 c κs = search needs
+filled-requires-2 c κs = tt
 
 array-borrow-prefix-patterns : tie.Need-array-borrow-prefix-patterns
 array-borrow-prefix-patterns c = search needs
@@ -42,19 +39,19 @@ slice-aggregate-copy-rows-2 : tie.Need-slice-aggregate-copy-rows-2
 slice-aggregate-copy-rows-2 c = simp length-take (omega arith)
 
 copy-rows-requires : tie.Need-copy-rows-requires
-copy-rows-requires c κs = search needs
+copy-rows-requires c κs = tt
 
-number-requires : tie.Need-number-requires
-number-requires c κs = search needs
+copy-result-requires : tie.Need-copy-result-requires
+copy-result-requires c κs = tt
 
-take-copied-requires : tie.Need-take-copied-requires
-take-copied-requires c κs = search needs
+take-requires : tie.Need-take-requires
+take-requires c κs = tt
 
 is-left-requires : tie.Need-is-left-requires
 is-left-requires c κs = search needs
 
 compare-requires : tie.Need-compare-requires
-compare-requires c κs = search needs
+compare-requires c κs = tt
 
 mul-is-left : tie.Need-mul-is-left
 mul-is-left c = search needs
@@ -66,16 +63,15 @@ is-left-requires-2 : tie.Need-is-left-requires-2
 is-left-requires-2 c κs = search needs
 
 compare-requires-2 : tie.Need-compare-requires-2
-compare-requires-2 c κs = search needs
+compare-requires-2 c κs = tt
 
 returns : tie.Need-returns
-returns c = search needs
+returns c = tt
 
 pub play-copy-spec : {M : Type 1} → statement M
 play-copy-spec =
     tie.close
     (tie.spec
-    note-requires
     byte-requires
     wide-requires
     byte-requires-2
@@ -88,8 +84,8 @@ play-copy-spec =
     array-borrow-prefix-counts
     slice-aggregate-copy-rows-2
     copy-rows-requires
-    number-requires
-    take-copied-requires
+    copy-result-requires
+    take-requires
     is-left-requires
     compare-requires
     mul-is-left
