@@ -1,0 +1,357 @@
+// Plays runs from files and compares what each call of `determination` gives with what the files say, which tools/run_cases.py worked out by
+// another route. A file's layout is written there. Nothing is known of what a file holds: past its end every byte reads as 0.
+use determination::Answered;
+use determination::Copied;
+use determination::Fetched;
+use determination::Run;
+use determination::Step;
+use libc::STDOUT_FILENO;
+ghost use mathlib.Core.Path.{_≡_};
+ghost use Prim.Native.Nat.{_+_, _*_, _≤_, _<_};
+ghost use lib.ListN.{length};
+
+// The first byte of an item. Up to LONGEST_SHORT it is an answer, with SHORT_ZERO added; above COPY, the item is an answer of eight bytes.
+const SHORT_ZERO: u64 = 64;
+
+const LONGEST_SHORT: u8 = 128;
+
+const START: u8 = 129;
+
+const FETCH: u8 = 130;
+
+const COPY: u8 = 131;
+
+// What a call gives, as one number: the product, pattern or number of rows as it is, DONE, or REFUSED with the refusal number added.
+const DONE: u64 = 65536;
+
+const REFUSED: u64 = 131072;
+
+// One more than any question total.
+const TOTALS: u64 = 1024;
+
+// What is in the lent slices before a copy. No pattern and no count is this.
+const FILLER: u16 = 43690;
+
+// One more than the length of any slice that is lent.
+const ROOM: usize = 256;
+
+// What is counted: under a refusal number, how often it came; under the others, what their names say.
+const REFUSALS: usize = 16;
+
+const RUNS: usize = 16;
+
+const ANSWERS: usize = 17;
+
+const FETCHES: usize = 18;
+
+const COPIES: usize = 19;
+
+const ENDED_DONE: usize = 20;
+
+const DIFFERENT: usize = 21;
+
+const KINDS: usize = 22;
+
+// ---- numbers of an item
+
+fn wide(x: u8) -> u64
+    ensures { λ r. ⌜ r < 256 ⌝ }
+{
+    x as u64
+}
+
+// The byte at a place, 0 past the end.
+fn byte(item: &[u8], at: usize) -> u8 {
+    if at < item.len() {
+        return item[at];
+    }
+    0
+}
+
+// The number in the two bytes at a place, high byte first; in four bytes; in eight.
+fn pair(item: &[u8], at: usize) -> u64
+    requires { ⌜ at < 65536 ⌝ }
+    ensures { λ r. ⌜ r < 65536 ⌝ }
+{
+    256 * wide(byte(item, at)) + wide(byte(item, at + 1))
+}
+
+fn four(item: &[u8], at: usize) -> u64
+    requires { ⌜ at < 256 ⌝ }
+    ensures { λ r. ⌜ r < 4294967296 ⌝ }
+{
+    65536 * pair(item, at) + pair(item, at + 2)
+}
+
+fn eight(item: &[u8], at: usize) -> u64
+    requires { ⌜ at < 128 ⌝ }
+{
+    4294967296 * four(item, at) + four(item, at + 4)
+}
+
+// The signed number with these bits.
+fn signed(bits: u64) -> i64 {
+    if bits < 9223372036854775808 {
+        return bits as i64;
+    }
+    -1 - ((18446744073709551615 - bits) as i64)
+}
+
+// What the item says that its call gives, and the question total after it.
+fn stored(item: &[u8]) -> u64 {
+    DONE * (pair(item, 1) / TOTALS) + pair(item, 3)
+}
+
+fn total(item: &[u8]) -> u64 {
+    pair(item, 1) % TOTALS
+}
+
+// ---- counts
+
+// One more, up to the largest number.
+fn more(n: usize) -> usize {
+    if n < usize::MAX { n + 1 } else { n }
+}
+
+fn note(tally: &mut [usize; KINDS], kind: usize) {
+    if kind < KINDS {
+        tally[kind] = more(tally[kind]);
+    }
+}
+
+fn note_result(tally: &mut [usize; KINDS], result: u64) {
+    if result == DONE {
+        return note(tally, ENDED_DONE);
+    }
+    if result < REFUSED {
+        return;
+    }
+    let k = (result - REFUSED) as usize;
+    if k < REFUSALS {
+        note(tally, k);
+    }
+}
+
+fn compare(tally: &mut [usize; KINDS], is_right: bool) {
+    if !is_right {
+        note(tally, DIFFERENT);
+    }
+}
+
+// Counts what a call gave, and whether it is what the item says.
+fn take(tally: &mut [usize; KINDS], item: &[u8], result: u64) {
+    note_result(tally, result);
+    compare(tally, result == stored(item));
+}
+
+// ---- the calls
+
+fn step_result(step: Step) -> u64 {
+    match step {
+        Step::Ask(p) => p.0 as u64,
+        Step::Done => DONE,
+        Step::Refused(k) => REFUSED + k as u64,
+    }
+}
+
+// The start or the answer that the item asks for.
+fn made(item: &[u8], run: Run) -> Answered {
+    let kind = byte(item, 0);
+    if kind <= LONGEST_SHORT {
+        let bits = std::num::wrapping_sub_u64(wide(kind), SHORT_ZERO);
+        return determination::answer(run, signed(bits));
+    }
+    if kind == START {
+        return determination::start(eight(item, 5) as usize);
+    }
+    determination::answer(run, signed(eight(item, 5)))
+}
+
+fn play_step(item: &[u8], run: Run, tally: &mut [usize; KINDS]) -> Run {
+    let got = made(item, run);
+    let step = got.step;
+    take(tally, item, step_result(step));
+    got.run
+}
+
+fn play_fetch(item: &[u8], run: Run, tally: &mut [usize; KINDS]) {
+    match determination::fetch_row(run, eight(item, 5) as usize) {
+        Fetched::Row(row) => {
+            take(tally, item, row.pattern.0 as u64);
+            compare(tally, row.count as u64 == pair(item, 13));
+        }
+        Fetched::Refused(k) => take(tally, item, REFUSED + k as u64),
+    }
+}
+
+fn copy_result(copied: Copied) -> u64 {
+    match copied {
+        Copied::Rows(n) => n as u64,
+        Copied::Refused(k) => REFUSED + k as u64,
+    }
+}
+
+// How many rows the item has for a copy: none where it is refused.
+fn rows_stored(item: &[u8]) -> usize
+    ensures { λ r. ⌜ r < 256 ⌝ }
+{
+    let n = stored(item) as usize;
+    if n < ROOM { n } else { 0 }
+}
+
+// What a lent array is to hold at k after a copy: one of the n numbers from a place on, or what it held.
+fn left(item: &[u8], at: usize, n: usize, k: usize) -> u16
+    requires { ⌜ (at < 1024) × (k < 256) ⌝ }
+{
+    if k < n {
+        return pair(item, at + 2 * k) as u16;
+    }
+    FILLER
+}
+
+// Whether a lent array holds that everywhere.
+fn is_left(item: &[u8], at: usize, n: usize, list: &[u16; ROOM]) -> bool
+    requires { ⌜ at < 1024 ⌝ }
+{
+    let mut k = 0;
+    while k < ROOM {
+        if list[k] != left(item, at, n, k) {
+            return false;
+        }
+        k += 1;
+    }
+    true
+}
+
+fn filled() -> [u16; ROOM]
+    ensures { λ r. ⌜ 256 ≡ length r ⌝ }
+{
+    [FILLER; ROOM]
+}
+
+// Copies all rows to slices of the item's two lengths, which are parts of longer arrays.
+fn play_copy(item: &[u8], run: Run, tally: &mut [usize; KINDS]) {
+    let a = wide(byte(item, 5)) as usize;
+    let b = wide(byte(item, 6)) as usize;
+    let n = rows_stored(item);
+    let mut patterns = filled();
+    let mut counts = filled();
+    let copied = determination::copy_rows(run, &mut patterns[..a], &mut counts[..b]);
+    take(tally, item, copy_result(copied));
+    compare(tally, is_left(item, 7, n, &patterns));
+    compare(tally, is_left(item, 7 + 2 * n, n, &counts));
+}
+
+// ---- a file
+
+// How many bytes an item has.
+fn size(item: &[u8]) -> usize
+    ensures { λ r. ⌜ (0 < r) × (r < 2048) ⌝ }
+{
+    let kind = byte(item, 0);
+    if kind <= LONGEST_SHORT {
+        return 5;
+    }
+    if kind == FETCH {
+        return 15;
+    }
+    if kind == COPY {
+        return 7 + 4 * rows_stored(item);
+    }
+    13
+}
+
+// Which count an item adds to.
+fn kind_of(item: &[u8]) -> usize {
+    match byte(item, 0) {
+        START => RUNS,
+        FETCH => FETCHES,
+        COPY => COPIES,
+        _ => ANSWERS,
+    }
+}
+
+// Makes the call of an item, and compares what it gives. The record after it.
+fn play(item: &[u8], run: Run, tally: &mut [usize; KINDS]) -> Run {
+    let kind = byte(item, 0);
+    if kind == FETCH {
+        play_fetch(item, run, tally);
+        return run;
+    }
+    if kind == COPY {
+        play_copy(item, run, tally);
+        return run;
+    }
+    play_step(item, run, tally)
+}
+
+// Plays all items of a file, from a record that no run has begun with. After each the question total is compared.
+fn play_all(file: &[u8], tally: &mut [usize; KINDS])
+    requires { ⌜ length (now file) ≤ 65536 ⌝ }
+{
+    let mut run = determination::start(0).run;
+    let mut at = 0;
+    while at < file.len() {
+        let item = &file[at..];
+        run = play(item, run, tally);
+        note(tally, kind_of(item));
+        compare(tally, determination::asked(run) as u64 == total(item));
+        at += size(item);
+    }
+    compare(tally, at == file.len());
+}
+
+// Plays the file that argument i names.
+fn play_argument(i: usize, tally: &mut [usize; KINDS]) {
+    let mut path = io::buffer();
+    let length = os::arg(i, &mut path);
+    let fd = os::open_read(&path[..length]);
+    if fd < 0 {
+        os::fail(&path[..length]);
+        return;
+    }
+    let mut file = io::large_buffer();
+    let n = io::read_full(fd, &mut file);
+    libc::close(fd);
+    play_all(&file[..n], tally);
+}
+
+fn print_count(name: &[u8], n: usize) {
+    io::write_all(STDOUT_FILENO, name);
+    io::print_decimal(STDOUT_FILENO, n as u64);
+    io::write_all(STDOUT_FILENO, b"\n");
+}
+
+fn print_counts(tally: &[usize; KINDS]) {
+    print_count(b"runs ", tally[RUNS]);
+    print_count(b"answers ", tally[ANSWERS]);
+    print_count(b"fetches ", tally[FETCHES]);
+    print_count(b"copies ", tally[COPIES]);
+    print_count(b"done ", tally[ENDED_DONE]);
+    print_count(b"differ ", tally[DIFFERENT]);
+}
+
+fn print_refusal(k: usize, n: usize) {
+    if 0 < n {
+        io::write_all(STDOUT_FILENO, b"refused by ");
+        io::print_decimal(STDOUT_FILENO, k as u64);
+        print_count(b": ", n);
+    }
+}
+
+fn print_refusals(tally: &[usize; KINDS]) {
+    let mut k = 0;
+    while k < REFUSALS {
+        print_refusal(k, tally[k]);
+        k += 1;
+    }
+}
+
+fn main() {
+    let mut tally = [0usize; KINDS];
+    play_argument(1, &mut tally);
+    play_argument(2, &mut tally);
+    play_argument(3, &mut tally);
+    print_counts(&tally);
+    print_refusals(&tally);
+}
