@@ -1,132 +1,141 @@
-// The printout of a card (document 01, "One card through"): its lines as bytes.
+// The printout of a card (document 01, "One card through"): whole, or line by line.
 //
-// No public call has a condition.
+// No public call has a condition: any bytes, and any play, have an answer.
 ghost use mathlib.Core.Path.{_≡_};
-ghost use mathlib.Core.List.{[], _∷_, _++_};
-ghost use Prim.Native.Nat.{_+_, _≤_, _<_};
-ghost use lib.ListN.{length};
-ghost use lib.Seq.{paste};
-ghost use Rattle.printout.specs.Text.{decimal, signed, textOf, questionLine, rowLine, endLine, refusalLine};
-use integers::magnitude;
-use signs::Pattern;
+ghost use Rattle.query.specs.declared.Answer.the-variants as of-query;
+ghost use Rattle.query.specs.Opened.{answer as answerOn};
+ghost use Rattle.rounds.specs.RoundEnd.{roundRows};
+ghost use Rattle.determination.specs.Run.{answerOf, fetchOf};
+ghost use Rattle.determination.specs.Record.{stateOf};
+ghost use Rattle.printout.specs.Play.{standing, stageOf, begunOf, gives, onStep, onAnswer, onFetch, afterRow, nextOf, Shows};
+use determination::Fetched;
+use determination::Run;
+use determination::Step;
+use lines::Line;
+use query::Answer;
+use query::Opened;
 use signs::Product;
 
-// The longest line has fewer bytes: `Q 65535 -9223372036854775808` and a newline are 29.
-const MOST_BYTES: usize = 32;
+// The most rows of a run.
+const MOST_ROWS: usize = 64;
 
-// The most digits of a 64-bit number.
-const MOST_DIGITS: usize = 20;
+// The refusal number past the last row.
+const PAST_LAST: u16 = 14;
 
-// A line: its text is the front `length` bytes.
-pub struct Line {
-    pub bytes: [u8; MOST_BYTES],
-    pub length: usize,
+// What comes next: a question, the row at a position, or nothing more.
+pub enum Stage {
+    Ask(Product),
+    Row(usize),
+    Over,
 }
 
-// The line with no byte yet.
-fn empty_line() -> Line
-    ensures { λ r. ⌜ (textOf r ≡ []) × (r .length ≡ 0) ⌝ }
+// A printout that goes on: the opened card, the run on it, and what comes next.
+pub struct Play {
+    pub card: Opened,
+    pub run: Run,
+    pub stage: Stage,
+}
+
+// A line, and the play after it.
+pub struct Printed {
+    pub play: Play,
+    pub line: Line,
+}
+
+// The printout of a card before its first line.
+pub fn begin(card: &[u8]) -> Play
+    ensures { λ r. ⌜ standing r ≡ begunOf (now (card .entry)) ⌝ }
 {
-    Line {
-        bytes: [0u8; MOST_BYTES],
-        length: 0,
+    let opened = query::open(card);
+    let first = determination::start(opened.s);
+    let run = first.run;
+    Play {
+        card: opened,
+        run: run,
+        stage: Stage::Ask(Product(0)),
     }
 }
 
-// The line with one more byte.
-fn with_byte(line: Line, b: u8) -> Line
-    requires { ⌜ line .length < 32 ⌝ }
-    ensures { λ r. ⌜ (textOf r ≡ textOf line ++ (b ∷ [])) × (r .length ≡ line .length + 1) ⌝ }
+// A line with what is left.
+fn with_line(card: Opened, run: Run, stage: Stage, line: Line) -> Printed
+    ensures { λ r. ⌜ (r .play .card ≡ card) × (r .play .run ≡ run) × (r .play .stage ≡ stage) × (r .line ≡ line) ⌝ }
 {
-    let at = line.length;
-    let mut bytes = line.bytes;
-    bytes[at] = b;
-    Line {
-        bytes: bytes,
-        length: at + 1,
+    let play = Play {
+        card: card,
+        run: run,
+        stage: stage,
+    };
+    Printed {
+        play: play,
+        line: line,
     }
 }
 
-// Writes the text to out, from byte `at` on.
-fn copy_at(text: &[u8], out: &mut [u8], at: usize)
-    requires { ⌜ at + length (now text) ≤ length (now out) ⌝ }
-    ensures { λ _. ⌜ now (out .exit) ≡ paste (now (out .entry)) at (now (text .entry)) (length (now (text .entry))) ⌝ }
+// The line of the product a whose query is z.
+fn take_answer(card: Opened, run: Run, a: Product, z: i64) -> Printed
+    ensures { λ r. ⌜ Shows r (onStep card (a .0) z (answerOf roundRows (stateOf run) z)) ⌝ }
 {
-    let mut k = 0;
-    while k < text.len() {
-        out[at + k] = text[k];
-        k += 1;
+    let next = determination::answer(run, z);
+    let after = next.run;
+    let step = next.step;
+    match step {
+        Step::Ask(b) => with_line(card, after, Stage::Ask(b), lines::question_line(a, z)),
+        Step::Done => with_line(card, after, Stage::Row(0), lines::question_line(a, z)),
+        Step::Refused(k) => with_line(card, after, Stage::Over, lines::refusal_line(k)),
     }
 }
 
-// The line with the text after it.
-fn with_text(line: Line, text: &[u8]) -> Line
-    requires { ⌜ line .length + length (now text) ≤ 32 ⌝ }
-    ensures { λ r. ⌜ (textOf r ≡ textOf line ++ now (text .entry)) × (r .length ≡ line .length + length (now (text .entry))) ⌝ }
+// The line of the product a: its query, or the number that refuses the card or the product.
+fn next_question(card: Opened, run: Run, a: Product) -> Printed
+    ensures { λ r. ⌜ Shows r (onAnswer card (stateOf run) (a .0) (answerOn card (a .0))) ⌝ }
 {
-    let at = line.length;
-    let mut bytes = line.bytes;
-    copy_at(text, &mut bytes, at);
-    Line {
-        bytes: bytes,
-        length: at + text.len(),
+    match query::ask(card, a) {
+        Answer::Number(z) => take_answer(card, run, a, z),
+        Answer::Refused(k) => with_line(card, run, Stage::Over, lines::refusal_line(k)),
     }
 }
 
-// The line with a number after it.
-fn with_natural(line: Line, n: u64) -> Line
-    requires { ⌜ line .length + length (decimal n) ≤ 32 ⌝ }
-    ensures { λ r. ⌜ (textOf r ≡ textOf line ++ decimal n) × (r .length ≡ line .length + length (decimal n)) ⌝ }
+// What comes after the row at position p.
+fn after_row(p: usize) -> Stage
+    ensures { λ r. ⌜ stageOf r ≡ afterRow p ⌝ }
 {
-    let mut text = [0u8; MOST_DIGITS];
-    let k = io::decimal(n, &mut text);
-    with_text(line, &text[..k])
-}
-
-// The line with an integer after it: a minus sign before a negative one.
-fn with_integer(line: Line, z: i64) -> Line
-    requires { ⌜ line .length + length (signed z) ≤ 32 ⌝ }
-    ensures { λ r. ⌜ (textOf r ≡ textOf line ++ signed z) × (r .length ≡ line .length + length (signed z)) ⌝ }
-{
-    if z < 0 {
-        return with_natural(with_byte(line, b'-'), magnitude(z));
+    if p < MOST_ROWS {
+        return Stage::Row(p + 1);
     }
-    with_natural(line, magnitude(z))
+    Stage::Over
 }
 
-// A line that begins with a letter and a number.
-fn with_letter(letter: u8, n: u64) -> Line
-    ensures { λ r. ⌜ (textOf r ≡ letter ∷ 32 ∷ decimal n) × (r .length ≡ 2 + length (decimal n)) ⌝ }
+// The line of the row at position p, or the last line.
+fn next_row(card: Opened, run: Run, p: usize) -> Printed
+    ensures { λ r. ⌜ Shows r (onFetch card (stateOf run) p (fetchOf (stateOf run) p)) ⌝ }
 {
-    with_natural(with_byte(with_byte(empty_line(), letter), b' '), n)
+    match determination::fetch_row(run, p) {
+        Fetched::Row(row) => with_line(
+            card,
+            run,
+            after_row(p),
+            lines::row_line(row.pattern, row.count),
+        ),
+        Fetched::Refused(k) => {
+            if k == PAST_LAST {
+                return with_line(card, run, Stage::Over, lines::end_line(determination::asked(run)));
+            }
+            with_line(card, run, Stage::Over, lines::refusal_line(k))
+        }
+    }
 }
 
-// The line of a question: `Q`, the product and its query.
-pub fn question_line(product: Product, answer: i64) -> Line
-    ensures { λ r. ⌜ (textOf r ≡ questionLine (product .0) answer) × (r .length ≤ 32) ⌝ }
+// The next line, and the play after it: a Q line for the question asked, an S line for each row, the E line past the last row, and the empty line
+// once it is over. Where the card or the run refuses, its R line, and it is over.
+pub fn next_line(play: Play) -> Printed
+    ensures { λ r. ⌜ Shows r (nextOf (standing play)) ⌝ }
 {
-    let begun = with_byte(with_letter(b'Q', product.0 as u64), b' ');
-    with_byte(with_integer(begun, answer), b'\n')
-}
-
-// The line of a row: `S`, the pattern and the number of points that have it.
-pub fn row_line(pattern: Pattern, count: u16) -> Line
-    ensures { λ r. ⌜ (textOf r ≡ rowLine (pattern .0) count) × (r .length ≤ 32) ⌝ }
-{
-    let begun = with_byte(with_letter(b'S', pattern.0 as u64), b' ');
-    with_byte(with_natural(begun, count as u64), b'\n')
-}
-
-// The last line: `E` and the number of questions.
-pub fn end_line(questions: usize) -> Line
-    ensures { λ r. ⌜ (textOf r ≡ endLine questions) × (r .length ≤ 32) ⌝ }
-{
-    with_byte(with_letter(b'E', questions as u64), b'\n')
-}
-
-// The line of a refusal: `R` and its number.
-pub fn refusal_line(number: u16) -> Line
-    ensures { λ r. ⌜ (textOf r ≡ refusalLine number) × (r .length ≤ 32) ⌝ }
-{
-    with_byte(with_letter(b'R', number as u64), b'\n')
+    let card = play.card;
+    let run = play.run;
+    let stage = play.stage;
+    match stage {
+        Stage::Ask(a) => next_question(card, run, a),
+        Stage::Row(p) => next_row(card, run, p),
+        Stage::Over => with_line(card, run, Stage::Over, lines::empty_line()),
+    }
 }
