@@ -1,1 +1,4 @@
 pub mod Showing
+pub mod Questions
+pub mod Edges
+pub mod Printing

@@ -8,9 +8,10 @@
 --   nextOf t       == what the standing t leaves, and its next line: Q with the answer of the card, S, E past the last row, nothing after the end;
 --                     R where the card or the run refuses, and then nothing more
 --   Shows o t      == the printed line o is that of nextOf t
+--   Prints t ls    == the lines from the standing t on, one after the other, are ls, and then it is over
 use mathlib.Core.Path.{_≡_}
 use mathlib.Core.Bool.{cond}
-use mathlib.Core.List.{List, []}
+use mathlib.Core.List.{List, [], _∷_}
 use Prim.Native.Nat.{ℕ, suc, _≤_}
 use lib.Dec.{eqb, ltb}
 use lib.IntN.{ℤ}
@@ -83,3 +84,7 @@ pub record Shows (o : Printed) (t : Standing × List ℕ) : Type 0 where
   pub left : standing (o .play) ≡ t .0
   pub text : textOf (o .line) ≡ t .1
   pub fits : o .line .length ≤ 32
+
+unfoldable pub Prints : Standing → List (List ℕ) → Type 0
+Prints t [] = t .stage ≡ over
+Prints t (l ∷ ls) = (nextOf t .1 ≡ l) × Prints (nextOf t .0) ls
