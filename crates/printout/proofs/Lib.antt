@@ -2,3 +2,4 @@ pub mod Showing
 pub mod Questions
 pub mod Edges
 pub mod Printing
+pub mod Texts

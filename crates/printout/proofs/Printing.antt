@@ -14,6 +14,7 @@ use Rattle.signs.specs.Signs.{query}
 use Rattle.signs.proofs.Lists.{times-nil, times-same, times-other, times-append}
 use Rattle.layout.specs.Format.{polynomials, points}
 use Rattle.card.specs.Card.{refusal}
+use Rattle.card.specs.Answers.{unless}
 use Rattle.card.specs.Sound.{Sound}
 use Rattle.card.proofs.Sound.{sound, unrefused}
 use Rattle.query.specs.declared.Opened.{Opened}
@@ -24,16 +25,19 @@ use Rattle.query.specs.Query.{queryOf, patternsOf, queryAnswer}
 use Rattle.query.proofs.Opening.{answer-opened, opened-sound}
 use Rattle.query.proofs.Answers.{query-sound, query-refused}
 use Rattle.query.proofs.Patterns.{query-patterns, patterns-long, patterns-below}
-use Rattle.rounds.specs.Rows.{maxPoints, maxPolynomials, Row, patterns, Oracle, realized, Fits}
+use Rattle.rounds.specs.Rows.{maxPoints, maxPolynomials, Row, patterns, Oracle, realized, IsRealized, Fits}
 use Rattle.rounds.specs.Rounds.{roundOf, Determined}
 use Rattle.rounds.specs.RoundEnd.{roundRows}
 use Rattle.rounds.proofs.Answers.{Facts, facts, round-low}
 use Rattle.rounds.proofs.Restrict.{fits-append, three-pos, three-mono}
 use Rattle.rounds.proofs.RoundEnds.{roundRows-right}
+use Rattle.rounds.proofs.Realized.{realized-true}
 use Rattle.determination.specs.Run.{State, Step, ask, done, refused, Phase, running, finished, closed, Fetch, row, no-row, startOf, answerOf, fetchRule, fetchOf}
 use Rattle.determination.specs.Record.{startedOf}
-use Rattle.determination.specs.Demand.{heard, asks}
+use Rattle.determination.specs.Demand.{play, heard, asks}
+use Rattle.determination.specs.Truthful.{truthful, enough}
 use Rattle.determination.proofs.Invariant.{Closed, Going, At, Inv, start-inv, going-short, After, answer-running}
+use Rattle.determination.proofs.Truthful.{truthful-done}
 use Rattle.lines.specs.Text.{questionLine, rowLine, endLine, refusalLine}
 use Rattle.printout.specs.Printout.{questions, questionLines, rowLines, soundLines, linesOf}
 use Rattle.printout.specs.Play.{Stage, question, row-at, over, Standing, begunOf, gives, onStep, onAnswer, afterRow, onFetch, nextAt, nextOf, Prints}
@@ -281,3 +285,53 @@ module _ (c : List ℕ) (S : Sound c) where
         length-map (questions s E) (λ p. questionLine p (queryOf c p)),
         length-map (realized s E) (λ x. rowLine (x .pattern) (x .count)),
       )
+
+-- ---- any card
+
+refused-prints : (c : List ℕ) (k : ℕ) → refusal c ≡ suc k → Prints (begunOf c) (refusalLine (suc k) ∷ [])
+unfolding begunOf
+refused-prints c k e =
+    prints-more (begunOf c) (at (opened c) (begunOf c .state) over) (refusalLine (suc k)) []
+    (unfold nextOf nextAt onAnswer in
+    ap (onAnswer (opened c) (begunOf c .state) 0) (answer-opened c 0 ∙ query-refused c 0 (λ z. absurd (omega (arith, e, z))) ∙ ap of-query.Refused e))
+    (unfold Prints in refl)
+
+-- THE THEOREM
+pub prints : (c : List ℕ) → Prints (begunOf c) (linesOf c)
+unfolding linesOf
+prints c = go (refusal c) refl
+  where
+    go : (m : ℕ) → refusal c ≡ m → Prints (begunOf c) (unless m (λ k. refusalLine k ∷ []) (soundLines c))
+    go zero e = sound-prints c (sound c e)
+    go (suc m) e = refused-prints c m e
+
+pub few-lines : (c : List ℕ) → length (linesOf c) ≤ 658
+unfolding linesOf
+few-lines c = go (refusal c) refl
+  where
+    go : (m : ℕ) → refusal c ≡ m → length (unless m (λ k. refusalLine k ∷ []) (soundLines c)) ≤ 658
+    go zero e = sound-few c (sound c e)
+    go (suc m) e = omega arith
+
+-- a refused card has one line, and a sound one those of its definition
+pub refused-line : (c : List ℕ) → (refusal c ≡ 0 → ⊥) → linesOf c ≡ refusalLine (refusal c) ∷ []
+unfolding linesOf
+refused-line c h = go (refusal c) refl
+  where
+    go : (m : ℕ) → refusal c ≡ m → unless m (λ k. refusalLine k ∷ []) (soundLines c) ≡ refusalLine m ∷ []
+    go zero e = absurd (h e)
+    go (suc m) e = refl
+
+pub sound-lines : (c : List ℕ) → Sound c → linesOf c ≡ soundLines c
+unfolding linesOf
+sound-lines c S = rw (unrefused c S) refl
+
+-- on a sound card the run answered by the card's queries ends done, with the patterns of the card's points, each once, rising, with its number of points
+module _ (c : List ℕ) (S : Sound c) where
+  pub card-done : (k : ℕ) → enough (polynomials c) ≤ k
+      → let r = play roundRows (startOf (polynomials c)) (truthful roundRows (polynomials c) (patternsOf c) k (startOf (polynomials c)) 0) in
+      (r .phase ≡ finished) × (r .rows ≡ realized (polynomials c) (patternsOf c))
+  card-done k h = truthful-done (polynomials c) (patternsOf c) (S .s-least) (oracle c S) k h
+
+  pub card-rows : IsRealized (patternsOf c) (realized (polynomials c) (patternsOf c))
+  card-rows = realized-true (polynomials c) (patternsOf c) (patterns-below c)
