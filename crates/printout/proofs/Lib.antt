@@ -3,3 +3,4 @@ pub mod Questions
 pub mod Edges
 pub mod Printing
 pub mod Texts
+pub mod Placing

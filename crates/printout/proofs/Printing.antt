@@ -199,7 +199,7 @@ module _ (c : List ℕ) (S : Sound c) where
       go : (y : State × Step) → answerOf roundRows r z ≡ y → After s zs ps z y → Rest qs (at (opened c) r (question α))
       go (r′, ask β) h B =
           let R : Rest ps (at (opened c) r′ (question β)) =
-              more r′ (zs ++ (z ∷ [])) ps β (B .inv) (sym (B .phase)) lengths fit (omega (arith, m, length-append zs (z ∷ []))) in
+          more r′ (zs ++ (z ∷ [])) ps β (B .inv) (sym (B .phase)) lengths fit (omega (arith, m, length-append zs (z ∷ []))) in
           record {
             rest = α ∷ R .rest;
             all = sym (append-assoc qs (α ∷ []) (R .rest)) ∙ R .all;
@@ -251,7 +251,7 @@ module _ (c : List ℕ) (S : Sound c) where
               (rows-print (opened c) r′ fin (subst (λ (R : List Row). length R ≤ 64) (sym found) few) [] (r′ .rows) refl))
       go (r′, refused n) h B =
           let C : Closed s (zs ++ (z ∷ [])) ps =
-              subst (λ (p : Phase). At s r′ (zs ++ (z ∷ [])) ps p (r′ .round)) (sym (B .phase)) (last r′ (B .inv) .at) in
+          subst (λ (p : Phase). At s r′ (zs ++ (z ∷ [])) ps p (r′ .round)) (sym (B .phase)) (last r′ (B .inv) .at) in
           absurd (C .none-fits (E, oracle, fit))
 
   goes : (k : ℕ) → Goes k

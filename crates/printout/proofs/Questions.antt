@@ -39,7 +39,7 @@ module _ (s : ℕ) (E : List ℕ) (O : Oracle s E) where
       let g : Fits s E (a .asked) (a .before) = fits-left s E (a .asked) (roundOf i (patterns (a .rows))) (a .before) (a .now) (F .lengths) f′ in
       a .products
       ∙ ap₂ (λ (l : List ℕ) (R₀ : List Row). l ++ roundOf i (patterns R₀)) (rounds-are i (a .before) (a .asked) (a .rows) (omega arith) (a .after) g)
-          (sym (rows-are i (a .before) (a .asked) (a .rows) (omega arith) (a .after) g))
+      (sym (rows-are i (a .before) (a .asked) (a .rows) (omega arith) (a .after) g))
 
 -- with no points there is nothing to ask but product 0
 rounds-none : (s : ℕ) → 0 ∷ [] ≡ 0 ∷ roundsTo s []

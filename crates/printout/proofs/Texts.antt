@@ -19,6 +19,15 @@ unfoldable pub textAfter : ℕ → Standing → List ℕ
 textAfter zero t = []
 textAfter (suc k) t = textAfter k t ++ nextOf (leftAfter k t) .1
 
+-- one line more
+pub left-more : (k : ℕ) (t u : Standing) → u ≡ leftAfter k t → nextOf u .0 ≡ leftAfter (suc k) t
+unfolding leftAfter
+left-more k t u e = ap (λ (x : Standing). nextOf x .0) e
+
+pub text-more : (k : ℕ) (t u : Standing) (l : List ℕ) → u ≡ leftAfter k t → l ≡ textAfter k t → l ++ nextOf u .1 ≡ textAfter (suc k) t
+unfolding textAfter
+text-more k t u l e f = ap₂ (λ (x : List ℕ) (y : Standing). x ++ nextOf y .1) f e
+
 left-first : (k : ℕ) (t : Standing) → leftAfter (suc k) t ≡ leftAfter k (nextOf t .0)
 unfolding leftAfter
 left-first zero t = refl

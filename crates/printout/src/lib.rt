@@ -2,11 +2,16 @@
 //
 // No public call has a condition: any bytes, and any play, have an answer.
 ghost use mathlib.Core.Path.{_≡_};
-ghost use Rattle.query.specs.declared.Answer.the-variants as of-query;
+ghost use mathlib.Core.List.{_++_};
+ghost use Prim.Native.Nat.{_+_, _≤_};
+ghost use lib.ListN.{length, take};
 ghost use Rattle.query.specs.Opened.{answer as answerOn};
 ghost use Rattle.rounds.specs.RoundEnd.{roundRows};
 ghost use Rattle.determination.specs.Run.{answerOf, fetchOf};
 ghost use Rattle.determination.specs.Record.{stateOf};
+ghost use Rattle.lines.specs.Text.{textOf};
+ghost use Rattle.printout.specs.Printout.{printoutOf};
+ghost use Rattle.printout.specs.Written.{writtenOf};
 ghost use Rattle.printout.specs.Play.{standing, stageOf, begunOf, gives, onStep, onAnswer, onFetch, afterRow, nextOf, Shows};
 use determination::Fetched;
 use determination::Run;
@@ -19,8 +24,16 @@ use signs::Product;
 // The most rows of a run.
 const MOST_ROWS: usize = 64;
 
-// The refusal number past the last row.
+// The most lines of a printout: 593 questions, 64 rows and the last line.
+pub const MOST_LINES: usize = 658;
+
+// The room that so many lines need at most, 32 bytes each.
+const MOST_TEXT: usize = 21056;
+
+// The refusal numbers past the last row, and of a slice that is too short.
 const PAST_LAST: u16 = 14;
+
+const TOO_SHORT: u16 = 15;
 
 // What comes next: a question, the row at a position, or nothing more.
 pub enum Stage {
@@ -40,6 +53,12 @@ pub struct Play {
 pub struct Printed {
     pub play: Play,
     pub line: Line,
+}
+
+// How many bytes a printout has, or the number that refuses the slice.
+pub enum Written {
+    Bytes(usize),
+    Refused(u16),
 }
 
 // The printout of a card before its first line.
@@ -118,7 +137,12 @@ fn next_row(card: Opened, run: Run, p: usize) -> Printed
         ),
         Fetched::Refused(k) => {
             if k == PAST_LAST {
-                return with_line(card, run, Stage::Over, lines::end_line(determination::asked(run)));
+                return with_line(
+                    card,
+                    run,
+                    Stage::Over,
+                    lines::end_line(determination::asked(run)),
+                );
             }
             with_line(card, run, Stage::Over, lines::refusal_line(k))
         }
@@ -138,4 +162,48 @@ pub fn next_line(play: Play) -> Printed
         Stage::Row(p) => next_row(card, run, p),
         Stage::Over => with_line(card, run, Stage::Over, lines::empty_line()),
     }
+}
+
+// Writes a line to out, from byte `at` on, and returns where it ends.
+fn put_line(line: Line, out: &mut [u8], at: usize) -> usize
+    requires { ⌜ (line .length ≤ 32) × (at + 32 ≤ length (now out)) ⌝ }
+    ensures { λ r. ⌜ (take r (now (out .exit)) ≡ take at (now (out .entry)) ++ textOf line) × (r ≤ at + 32) ⌝ }
+{
+    let n = line.length;
+    let bytes = line.bytes;
+    lines::copy_at(&bytes[..n], out, at);
+    at + n
+}
+
+// Writes the printout of a card to the front of out, which has room for any, and returns how many bytes it has.
+fn put_lines(card: &[u8], out: &mut [u8]) -> usize
+    requires { ⌜ length (now out) ≡ 21056 ⌝ }
+    ensures { λ r. ⌜ (take r (now (out .exit)) ≡ printoutOf (now (card .entry))) × (r ≡ length (printoutOf (now (card .entry)))) × (r ≤ 21056) ⌝ }
+{
+    let mut play = begin(card);
+    let mut at = 0;
+    let mut k = 0;
+    while k < MOST_LINES {
+        let next = next_line(play);
+        let after = next.play;
+        let line = next.line;
+        at = put_line(line, out, at);
+        play = after;
+        k += 1;
+    }
+    at
+}
+
+// Writes the whole printout of a card to the front of out and returns how many bytes it has; what lies past it is kept. 15 where out is shorter, and
+// out is as it was.
+pub fn printout(card: &[u8], out: &mut [u8]) -> Written
+    ensures { λ r. ⌜ (r, now (out .exit)) ≡ writtenOf (now (card .entry)) (now (out .entry)) ⌝ }
+{
+    let mut text = [0u8; MOST_TEXT];
+    let n = put_lines(card, &mut text);
+    if out.len() < n {
+        return Written::Refused(TOO_SHORT);
+    }
+    lines::copy_at(&text[..n], out, 0);
+    Written::Bytes(n)
 }
