@@ -1,0 +1,39 @@
+// askcard: reads a card on standard input and writes its printout to standard output (document 01, "One card through").
+//
+// The lines are those of `printout`: this program only reads and writes.
+use libc::STDIN_FILENO;
+use libc::STDOUT_FILENO;
+use lines::Line;
+
+// More bytes than the longest card has, 318, so that one that is too long is refused as such.
+const MOST_READ: usize = 320;
+
+// Writes a line, and says whether there may be another: not after the empty line, nor where the write failed.
+fn write_line(line: Line) -> bool {
+    let n = line.length;
+    let bytes = line.bytes;
+    if n == 0 {
+        return false;
+    }
+    if bytes.len() < n {
+        return false;
+    }
+    io::write_all(STDOUT_FILENO, &bytes[..n])
+}
+
+fn main() {
+    let mut card = [0u8; MOST_READ];
+    let n = io::read_full(STDIN_FILENO, &mut card);
+    let mut play = printout::begin(&card[..n]);
+    let mut k = 0;
+    while k < printout::MOST_LINES {
+        let next = printout::next_line(play);
+        let line = next.line;
+        if !write_line(line) {
+            return;
+        }
+        let after = next.play;
+        play = after;
+        k += 1;
+    }
+}

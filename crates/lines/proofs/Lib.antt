@@ -1,0 +1,4 @@
+pub mod Lengths
+pub mod Decimals
+pub mod Signed
+pub mod Lines

@@ -1,0 +1,72 @@
+-- The text of numbers and of the lines of a printout, as lists of bytes in ASCII (document 01, "One card through"). Assumes nothing: these are
+-- definitions.
+--
+--   decimalTo f n == the digits of n to the base 10, the last one right, f being at least as many as there are
+--   decimal n     == the same of every number: 0 is `0`, and no other number begins with `0`
+--   signed z      == an integer: `-` before a negative one
+--   questionLine product answer, rowLine pattern count, endLine questions, refusalLine number
+--                 == "Q product answer; S pattern count; E questions", and "`R` and its number", each with a newline at its end
+--   textOf l      == the text that a line of the code holds: its front bytes
+use mathlib.Core.Bool.{cond}
+use mathlib.Core.List.{List, [], _∷_, _++_}
+use Prim.Native.Nat.{ℕ, zero, suc, _+_, _/_, _%_}
+use lib.Dec.{ltb}
+use lib.IntN.{ℤ, pos, negsuc}
+use lib.ListN.{take}
+use Rattle.lines.specs.declared.Line.{Line}
+
+-- ---- bytes
+
+abbrev pub newline : ℕ
+newline = 10
+
+abbrev pub space : ℕ
+space = 32
+
+abbrev pub minus : ℕ
+minus = 45
+
+abbrev pub digit : ℕ → ℕ
+digit d = 48 + d
+
+abbrev pub letter-E : ℕ
+letter-E = 69
+
+abbrev pub letter-Q : ℕ
+letter-Q = 81
+
+abbrev pub letter-R : ℕ
+letter-R = 82
+
+abbrev pub letter-S : ℕ
+letter-S = 83
+
+-- ---- numbers
+
+unfoldable pub decimalTo : ℕ → ℕ → List ℕ
+decimalTo zero n = []
+decimalTo (suc f) n = cond (ltb n 10) (digit n ∷ []) (decimalTo f (n / 10) ++ (digit (n % 10) ∷ []))
+
+unfoldable pub decimal : ℕ → List ℕ
+decimal n = decimalTo (suc n) n
+
+unfoldable pub signed : ℤ → List ℕ
+signed (pos n) = decimal n
+signed (negsuc n) = minus ∷ decimal (suc n)
+
+-- ---- lines
+
+unfoldable pub questionLine : ℕ → ℤ → List ℕ
+questionLine product answer = (letter-Q ∷ space ∷ decimal product) ++ ((space ∷ signed answer) ++ (newline ∷ []))
+
+unfoldable pub rowLine : ℕ → ℕ → List ℕ
+rowLine pattern count = (letter-S ∷ space ∷ decimal pattern) ++ ((space ∷ decimal count) ++ (newline ∷ []))
+
+unfoldable pub endLine : ℕ → List ℕ
+endLine questions = (letter-E ∷ space ∷ decimal questions) ++ (newline ∷ [])
+
+unfoldable pub refusalLine : ℕ → List ℕ
+refusalLine number = (letter-R ∷ space ∷ decimal number) ++ (newline ∷ [])
+
+abbrev pub textOf : Line → List ℕ
+textOf l = take (l .length) (l .bytes)

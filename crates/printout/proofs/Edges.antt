@@ -1,0 +1,56 @@
+-- Document 01's printed card, a card without points and a refused card, by computing the definitions. Assumes nothing.
+--
+--   example == the card of document 01, "One card through": P1 = X, P2 = X + 1, P3 = X − 2 at −3, 1, 3
+--   empty   == one polynomial, X, and no points
+use mathlib.Core.Path.{_≡_, refl}
+use mathlib.Core.Bool.{cond}
+use mathlib.Core.List.{List, [], _∷_, _++_}
+use Prim.Native.Nat.{ℕ}
+use lib.IntN.{pos, negsuc}
+use lib.ListN.{set}
+use Rattle.integers.specs.Sums.{sumTo}
+use Rattle.signs.specs.Lists.{times, upTo, keep, shift}
+use Rattle.signs.specs.Adapted.{adapted, lows, signsOf}
+use Rattle.signs.specs.Signs.{power}
+use Rattle.layout.specs.Format.{two's, offset, word}
+use Rattle.layout.specs.Values.{value, sign-digit}
+use Rattle.card.specs.Card.{some, contents, header, polynomial, coefficients, bodies, last, refusal}
+use Rattle.query.specs.Query.{productTo, queryOf, patternTo, patternsOf}
+use Rattle.rounds.specs.Rows.{patterns, rowIf, rowsOf, realized}
+use Rattle.rounds.specs.Rounds.{roundOf}
+use Rattle.lines.specs.Text.{decimalTo, decimal, signed, questionLine, rowLine, endLine, refusalLine}
+use Rattle.printout.specs.Printout.{lowered, roundsTo, questions, questionLines, rowLines, soundLines, linesOf, together, printoutOf}
+
+abbrev example : List ℕ
+example =
+    1 ∷ 3 ∷ 3 ∷ 0 ∷ 0 ∷ 12 ∷ 0 ∷ 21 ∷ 0 ∷ 30 ∷ 0 ∷ 39 ∷ 1 ∷ 0
+    ∷ 0 ∷ 0 ∷ 0 ∷ 0 ∷ 0 ∷ 0 ∷ 1 ∷ 1 ∷ 0 ∷ 0 ∷ 0 ∷ 1 ∷ 0 ∷ 0
+    ∷ 0 ∷ 1 ∷ 1 ∷ 255 ∷ 255 ∷ 255 ∷ 254 ∷ 0 ∷ 0 ∷ 0 ∷ 1 ∷ 253 ∷ 1 ∷ 3 ∷ []
+
+abbrev empty : List ℕ
+empty = 1 ∷ 1 ∷ 0 ∷ 0 ∷ 0 ∷ 8 ∷ 0 ∷ 17 ∷ 1 ∷ 0 ∷ 0 ∷ 0 ∷ 0 ∷ 0 ∷ 0 ∷ 0 ∷ 1 ∷ []
+
+-- a card refused by 5: `R 5`
+refused-text : printoutOf (set example 12 7) ≡ (82 ∷ 32 ∷ 53 ∷ 10 ∷ [])
+unfolding printoutOf together linesOf refusal header contents bodies polynomial coefficients last some offset two's word refusalLine decimal decimalTo
+refused-text = refl
+
+-- `Q 0 0` and `E 1`
+empty-text : printoutOf empty ≡ (81 ∷ 32 ∷ 48 ∷ 32 ∷ 48 ∷ 10 ∷ 69 ∷ 32 ∷ 49 ∷ 10 ∷ [])
+unfolding printoutOf together linesOf soundLines questionLines rowLines questions refusal header contents bodies polynomial coefficients last some offset two's word
+    questionLine endLine decimal decimalTo signed queryOf patternsOf upTo sumTo realized rowsOf rowIf times
+empty-text = refl
+
+-- the 15 lines
+example-lines : linesOf example ≡
+    (questionLine 0 (pos 3) ∷ questionLine 1 (pos 1) ∷ questionLine 2 (pos 3) ∷ questionLine 3 (pos 1) ∷ questionLine 4 (pos 3)
+    ∷ questionLine 6 (pos 3) ∷ questionLine 7 (pos 1) ∷ questionLine 9 (negsuc 0) ∷ questionLine 10 (pos 1) ∷ questionLine 18 (pos 3)
+    ∷ questionLine 19 (pos 1) ∷ rowLine 13 1 ∷ rowLine 22 1 ∷ rowLine 26 1 ∷ endLine 11 ∷ [])
+unfolding linesOf soundLines questionLines rowLines questions roundsTo lowered refusal header contents bodies polynomial coefficients last some offset two's word
+    queryOf productTo patternsOf patternTo value sign-digit power upTo sumTo realized rowsOf rowIf times patterns roundOf adapted lows signsOf keep shift
+example-lines = refl
+
+-- `Q 9 -1`
+minus-line : questionLine 9 (negsuc 0) ≡ (81 ∷ 32 ∷ 57 ∷ 32 ∷ 45 ∷ 49 ∷ 10 ∷ [])
+unfolding questionLine decimal decimalTo signed
+minus-line = refl

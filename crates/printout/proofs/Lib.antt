@@ -1,0 +1,6 @@
+pub mod Showing
+pub mod Questions
+pub mod Edges
+pub mod Printing
+pub mod Texts
+pub mod Placing

@@ -1,0 +1,3 @@
+pub mod Printout
+pub mod Play
+pub mod Written
