@@ -32,12 +32,12 @@ use Rattle.rounds.proofs.Answers.{Facts, facts, round-low}
 use Rattle.rounds.proofs.Restrict.{fits-append, three-pos, three-mono}
 use Rattle.rounds.proofs.RoundEnds.{roundRows-right}
 use Rattle.rounds.proofs.Realized.{realized-true}
-use Rattle.determination.specs.Run.{State, Step, ask, done, refused, Phase, running, finished, closed, Fetch, row, no-row, startOf, answerOf, fetchRule, fetchOf}
+use Rattle.runs.specs.Run.{State, Step, ask, done, refused, Phase, running, finished, closed, Fetch, row, no-row, startOf, answerOf, fetchRule, fetchOf}
 use Rattle.determination.specs.Record.{startedOf}
-use Rattle.determination.specs.Demand.{play, heard, asks}
-use Rattle.determination.specs.Truthful.{truthful, enough}
-use Rattle.determination.proofs.Invariant.{Closed, Going, At, Inv, start-inv, going-short, After, answer-running}
-use Rattle.determination.proofs.Truthful.{truthful-done}
+use Rattle.runs.specs.Demand.{play, heard, asks}
+use Rattle.runs.specs.Truthful.{truthful, enough}
+use Rattle.runs.proofs.Invariant.{Closed, Going, At, Inv, start-inv, going-short, After, answer-running}
+use Rattle.runs.proofs.Truthful.{truthful-done}
 use Rattle.lines.specs.Text.{questionLine, rowLine, endLine, refusalLine}
 use Rattle.printout.specs.Printout.{questions, questionLines, rowLines, soundLines, linesOf}
 use Rattle.printout.specs.Play.{Stage, question, row-at, over, Standing, begunOf, gives, onStep, onAnswer, afterRow, onFetch, nextAt, nextOf, Prints}

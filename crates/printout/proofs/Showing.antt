@@ -18,7 +18,7 @@ use Rattle.determination.specs.declared.Step.the-variants as steps
 use Rattle.determination.specs.declared.Row.{Row}
 use Rattle.determination.specs.declared.Fetched.{Fetched}
 use Rattle.determination.specs.declared.Fetched.the-variants as fetches
-use Rattle.determination.specs.Run.{State, Step, Fetch, past-last, answerOf, fetchOf}
+use Rattle.runs.specs.Run.{State, Step, Fetch, past-last, answerOf, fetchOf}
 use Rattle.determination.specs.Record.{stateOf, stepOf, fetchedOf, startedOf}
 use Rattle.lines.specs.declared.Line.{Line}
 use Rattle.lines.specs.Text.{textOf, questionLine, rowLine, endLine, refusalLine}

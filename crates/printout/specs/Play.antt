@@ -21,7 +21,7 @@ use Rattle.query.specs.declared.Answer.{Answer}
 use Rattle.query.specs.declared.Answer.the-variants as of-query
 use Rattle.rounds.specs.Rows.{maxPoints}
 use Rattle.rounds.specs.RoundEnd.{roundRows}
-use Rattle.determination.specs.Run.{State, Step, ask, done, refused, Fetch, row, no-row, past-last, answerOf, fetchOf}
+use Rattle.runs.specs.Run.{State, Step, ask, done, refused, Fetch, row, no-row, past-last, answerOf, fetchOf}
 use Rattle.determination.specs.Record.{stateOf, startedOf}
 use Rattle.lines.specs.Text.{textOf, questionLine, rowLine, endLine, refusalLine}
 use Rattle.printout.specs.declared.Stage as code-stage

@@ -7,7 +7,7 @@ ghost use Prim.Native.Nat.{_+_, _≤_};
 ghost use lib.ListN.{length, take};
 ghost use Rattle.query.specs.Opened.{answer as answerOn};
 ghost use Rattle.rounds.specs.RoundEnd.{roundRows};
-ghost use Rattle.determination.specs.Run.{answerOf, fetchOf};
+ghost use Rattle.runs.specs.Run.{answerOf, fetchOf};
 ghost use Rattle.determination.specs.Record.{stateOf};
 ghost use Rattle.lines.specs.Text.{textOf};
 ghost use Rattle.printout.specs.Printout.{printoutOf};
