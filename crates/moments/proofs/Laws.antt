@@ -13,7 +13,7 @@ use lib.Dec.{eqb, leb}
 use lib.IntN.{ℤ, pos, natAbs, _+ℤ_, _-ℤ_}
 use lib.ListN.{length, getD, take, drop, set, List·getD-eq-default}
 use lib.Seq.{getD-set-same, getD-set-other}
-use mir.Syntax.{w64}
+use mir.Syntax.{w16, w64}
 use mir.Val.{SFits, toZ, ofZ}
 use mir.Facts.{toZ-ofZ}
 use Rattle.integers.specs.Sums.{Within}
@@ -23,12 +23,18 @@ use Rattle.moments.specs.Moments.{secondOf, thirdOf, rank, NumberOf}
 
 -- ---- signed numbers
 
-pub fits-small : (z : ℤ) → natAbs z ≤ 65536 → SFits w64 z
+pub fits-small : (z : ℤ) → natAbs z ≤ 32767 → SFits w16 z
 fits-small z h = omega (int, parts z)
 
+pub fits-wide : (z : ℤ) → SFits w16 z → SFits w64 z
+fits-wide z h = omega (int, parts z)
+
 -- what is read back from a signed number's bits
-pub back : (x : ℤ) → SFits w64 x → toZ w64 (ofZ w64 x) ≡ x
+pub back : (x : ℤ) → SFits w16 x → toZ w16 (ofZ w16 x) ≡ x
 back x h = toZ-ofZ h
+
+pub back-64 : (x : ℤ) → SFits w64 x → toZ w64 (ofZ w64 x) ≡ x
+back-64 x h = toZ-ofZ h
 
 -- ---- small lists
 

@@ -5,6 +5,7 @@
 -- g of + and −. A mark says with which signs q stands: 1 for 0, 2 for +, 4 for −, added up.
 --
 --   AllWithin n x b        == b says whether each number of x is in −n .. n
+--   CopiedWithin n x o b   == b says the same; if so, o holds the numbers of x
 --   secondOf m d           == e of a pattern with one sign, from d; 0 with more, where it is not known
 --   thirdOf m d e          == g of a pattern with one or two signs, from d and e; 0 with three
 --   Second m d e           == e holds the known second moments of the patterns with the marks m and the first moments d
@@ -32,6 +33,10 @@ use Rattle.adapted.specs.Split.{countOf}
 abbrev pub AllWithin : ℕ → List ℤ → Bool → Type 0
 AllWithin n x true = Within n x
 AllWithin n x false = Within n x → ⊥
+
+abbrev pub CopiedWithin : ℕ → List ℤ → List ℤ → Bool → Type 0
+CopiedWithin n x o true = Within n x × (o ≡ x)
+CopiedWithin n x o false = Within n x → ⊥
 
 unfoldable pub secondOf : ℕ → ℤ → ℤ
 secondOf m d = cond (eqb m 2) d (cond (eqb m 4) (pos 0 -ℤ d) (pos 0))

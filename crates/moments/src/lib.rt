@@ -10,7 +10,7 @@ ghost use lib.ListN.{length, getD, drop};
 ghost use Rattle.integers.specs.Sums.{Within};
 ghost use Rattle.signs.specs.Lists.{Below};
 ghost use Rattle.adapted.specs.Split.{countOf};
-ghost use Rattle.moments.specs.Moments.{AllWithin, secondOf, thirdOf, Second, Third, rank, Spread, putOne, Numbered, Combined};
+ghost use Rattle.moments.specs.Moments.{AllWithin, CopiedWithin, secondOf, thirdOf, Second, Third, rank, Spread, putOne, Numbered, Combined};
 use adapted::count;
 use integers::Half;
 use integers::halve;
@@ -21,13 +21,13 @@ use signs::digit;
 const LIMIT: u64 = 64;
 
 // Whether every number lies in −64 .. 64.
-pub fn all_small(x: &[i64]) -> bool
+pub fn all_small(x: &[i16]) -> bool
     ensures { λ r. ⌜ AllWithin 64 (now (x .entry)) r ⌝ }
 {
     let mut k = 0;
     while k < x.len() {
         let y = x[k];
-        if LIMIT < magnitude(y) {
+        if LIMIT < magnitude(wide(y)) {
             return false;
         }
         k += 1;
@@ -35,23 +35,37 @@ pub fn all_small(x: &[i64]) -> bool
     true
 }
 
+// A small number of 64 bits, and one of 16 bits as one of 64.
+pub fn narrow(x: i64) -> i16
+    requires { ⌜ natAbs x ≤ 256 ⌝ }
+    ensures { λ r. ⌜ r ≡ x ⌝ }
+{
+    x as i16
+}
+
+pub fn wide(x: i16) -> i64
+    ensures { λ r. ⌜ r ≡ x ⌝ }
+{
+    x as i64
+}
+
 // The sum and the difference of small numbers.
-pub fn plus(a: i64, b: i64) -> i64
-    requires { ⌜ natAbs a + natAbs b ≤ 65536 ⌝ }
+pub fn plus(a: i16, b: i16) -> i16
+    requires { ⌜ natAbs a + natAbs b ≤ 32767 ⌝ }
     ensures { λ r. ⌜ r ≡ a +ℤ b ⌝ }
 {
     a + b
 }
 
-pub fn minus(a: i64, b: i64) -> i64
-    requires { ⌜ natAbs a + natAbs b ≤ 65536 ⌝ }
+pub fn minus(a: i16, b: i16) -> i16
+    requires { ⌜ natAbs a + natAbs b ≤ 32767 ⌝ }
     ensures { λ r. ⌜ r ≡ a -ℤ b ⌝ }
 {
     a - b
 }
 
 // The second moment of a pattern that stands with one sign, from its first and its mark; 0 where it stands with more.
-fn second_value(m: u8, d: i64) -> i64
+fn second_value(m: u8, d: i16) -> i16
     requires { ⌜ natAbs d ≤ 256 ⌝ }
     ensures { λ r. ⌜ r ≡ secondOf m d ⌝ }
 {
@@ -62,7 +76,7 @@ fn second_value(m: u8, d: i64) -> i64
 }
 
 // The third moment of a pattern that stands with one or two signs, from the others and its mark; 0 where it stands with three.
-fn third_value(m: u8, d: i64, e: i64) -> i64
+fn third_value(m: u8, d: i16, e: i16) -> i16
     requires { ⌜ natAbs e ≤ 256 ⌝ }
     ensures { λ r. ⌜ r ≡ thirdOf m d e ⌝ }
 {
@@ -76,7 +90,7 @@ fn third_value(m: u8, d: i64, e: i64) -> i64
 }
 
 // Writes the known second moments to e.
-pub fn second(mark: &[u8], d: &[i64], e: &mut [i64])
+pub fn second(mark: &[u8], d: &[i16], e: &mut [i16])
     requires { ⌜ (length (now d) ≡ length (now mark)) × (length (now e) ≡ length (now mark)) × Within 256 (now d) ⌝ }
     ensures { λ _. ⌜ Second (now (mark .entry)) (now (d .entry)) (now (e .exit)) ⌝ }
 {
@@ -90,7 +104,7 @@ pub fn second(mark: &[u8], d: &[i64], e: &mut [i64])
 }
 
 // Writes the known third moments to g.
-pub fn third(mark: &[u8], d: &[i64], e: &[i64], g: &mut [i64])
+pub fn third(mark: &[u8], d: &[i16], e: &[i16], g: &mut [i16])
     requires { ⌜ (length (now d) ≡ length (now mark)) × (length (now e) ≡ length (now mark)) × (length (now g) ≡ length (now mark)) × Within 256 (now e) ⌝ }
     ensures { λ _. ⌜ Third (now (mark .entry)) (now (d .entry)) (now (e .entry)) (now (g .exit)) ⌝ }
 {
@@ -105,7 +119,7 @@ pub fn third(mark: &[u8], d: &[i64], e: &[i64], g: &mut [i64])
 }
 
 // Copies x to the front of out.
-pub fn copy(x: &[i64], out: &mut [i64])
+pub fn copy(x: &[i16], out: &mut [i16])
     requires { ⌜ length (now x) ≤ length (now out) ⌝ }
     ensures { λ _. ⌜ now (out .exit) ≡ now (x .entry) ++ drop (length (now (x .entry))) (now (out .entry)) ⌝ }
 {
@@ -117,8 +131,40 @@ pub fn copy(x: &[i64], out: &mut [i64])
     }
 }
 
+// The same to numbers of 64 bits.
+pub fn copy_wide(x: &[i16], out: &mut [i64])
+    requires { ⌜ length (now x) ≤ length (now out) ⌝ }
+    ensures { λ _. ⌜ now (out .exit) ≡ now (x .entry) ++ drop (length (now (x .entry))) (now (out .entry)) ⌝ }
+{
+    let mut k = 0;
+    while k < x.len() {
+        let y = x[k];
+        let z = wide(y);
+        out[k] = z;
+        k += 1;
+    }
+}
+
+// Copies x to out where every number lies in −64 .. 64, or says that one does not.
+pub fn copy_small(x: &[i64], out: &mut [i16]) -> bool
+    requires { ⌜ length (now out) ≡ length (now x) ⌝ }
+    ensures { λ r. ⌜ CopiedWithin 64 (now (x .entry)) (now (out .exit)) r ⌝ }
+{
+    let mut k = 0;
+    while k < x.len() {
+        let y = x[k];
+        if LIMIT < magnitude(y) {
+            return false;
+        }
+        let z = narrow(y);
+        out[k] = z;
+        k += 1;
+    }
+    true
+}
+
 // Adds the number of f at n to v at j where the mark m has at least k signs. Returns where the next one of f is.
-fn put_one(m: u8, k: usize, f: &[i64], n: usize, v: &mut [i64], j: usize) -> usize
+fn put_one(m: u8, k: usize, f: &[i16], n: usize, v: &mut [i16], j: usize) -> usize
     requires { ⌜ (m < 8) × (k ≤ countOf m → n < length (now f)) × (j < length (now v)) × (n < 65536) × Within 256 (now v) × Within 256 (now f) ⌝ }
     ensures { λ r. ⌜ r ≡ n + cond (leb k (countOf m)) 1 0 ⌝ }
     ensures { λ _. ⌜ now (v .exit) ≡ putOne (leb k (countOf m)) (now (v .entry)) j (getD (now (v .entry)) j (pos 0) +ℤ getD (now (f .entry)) n (pos 0)) ⌝ }
@@ -134,7 +180,7 @@ fn put_one(m: u8, k: usize, f: &[i64], n: usize, v: &mut [i64], j: usize) -> usi
 }
 
 // Adds f to v at the patterns whose mark has at least k signs, in order.
-pub fn put(mark: &[u8], k: usize, f: &[i64], v: &mut [i64])
+pub fn put(mark: &[u8], k: usize, f: &[i16], v: &mut [i16])
     requires { ⌜ Below 8 (now mark) × (length (now v) ≡ length (now mark)) × (rank k (now mark) (length (now mark)) ≡ length (now f)) × (length (now mark) ≤ 64) ⌝ }
     requires { ⌜ Within 128 (now v) × Within 64 (now f) ⌝ }
     ensures { λ _. ⌜ Spread k (now (mark .entry)) (now (f .entry)) (now (v .entry)) (now (v .exit)) ⌝ }
@@ -148,17 +194,17 @@ pub fn put(mark: &[u8], k: usize, f: &[i64], v: &mut [i64])
 }
 
 // The number of a pattern whose last digit is c from the moments of its low part, or that it is not whole.
-fn number(c: u16, d: i64, e: i64, g: i64) -> Half
+fn number(c: u16, d: i16, e: i16, g: i16) -> Half
     requires { ⌜ (natAbs d ≤ 256) × (natAbs e ≤ 256) × (natAbs g ≤ 256) ⌝ }
     ensures { λ r. ⌜ Numbered c d e g r ⌝ }
 {
     if c == 0 {
-        return Half::Whole(minus(d, g));
+        return Half::Whole(wide(minus(d, g)));
     }
     if c == 1 {
-        halve(plus(g, e))
+        halve(wide(plus(g, e)))
     } else {
-        halve(minus(g, e))
+        halve(wide(minus(g, e)))
     }
 }
 
@@ -167,10 +213,10 @@ pub fn combine(
     l: &[u16],
     w: u16,
     at: &[u8],
-    d: &[i64],
-    e: &[i64],
-    g: &[i64],
-    out: &mut [i64],
+    d: &[i16],
+    e: &[i16],
+    g: &[i16],
+    out: &mut [i16],
 ) -> bool
     requires { ⌜ Below (3 * w) (now l) × (length (now at) ≡ length (now l)) × (length (now out) ≡ length (now l)) × Below (length (now d)) (now at) ⌝ }
     requires { ⌜ (length (now e) ≡ length (now d)) × (length (now g) ≡ length (now d)) × Within 256 (now d) × Within 256 (now e) × Within 256 (now g) ⌝ }
@@ -192,7 +238,8 @@ pub fn combine(
             return false;
         }
         left -= m;
-        out[k] = u;
+        let v = narrow(u);
+        out[k] = v;
         k += 1;
     }
     true

@@ -12,11 +12,10 @@ use lib.Dec.{eqb, ltb}
 use lib.IntN.{ℤ, pos, negsuc, natAbs, _+ℤ_, _-ℤ_, _*ℤ_, +ℤ-idl, +ℤ-idr, +ℤ-assoc}
 use lib.ListN.{length, getD, drop}
 use lib.Seq.{drop-cons}
-use mir.Syntax.{w64}
-use mir.Val.{SFits, ofZ}
-use mir.Facts.{sfits-lit}
+use mir.Syntax.{w16}
+use mir.Val.{SFits, toZ, ofZ}
+use Rattle.moments.proofs.Laws.{back}
 use Rattle.integers.proofs.Abs.{abs-zero}
-use Rattle.integers.proofs.I64.{same-bits}
 use Rattle.signs.specs.Signs.{sign, weighted}
 use Rattle.signs.specs.Bits.{signBits}
 use Rattle.remains.specs.Remains.{remains, other0, bitSum}
@@ -63,15 +62,15 @@ weighted-next i α j l v h e = rw (drop-cons l j 0 h, drop-cons v j (pos 0) (ome
 
 -- ---- the test of 0, by the bits
 
-pub zero-bits : (x : ℤ) → SFits w64 x → ofZ w64 x ≡ ofZ w64 (pos 0) → other0 x ≡ false
-zero-bits x f e = let z : x ≡ pos 0 = same-bits x (pos 0) f (sfits-lit tt) e in rw z refl
+pub zero-bits : (x : ℤ) → SFits w16 x → ofZ w16 x ≡ ofZ w16 (pos 0) → other0 x ≡ false
+zero-bits x f e = let z : x ≡ pos 0 = sym (back x f) ∙ ap (toZ w16) e in rw z refl
 
-pub other-bits : (x : ℤ) → (ofZ w64 x ≡ ofZ w64 (pos 0) → ⊥) → other0 x ≡ true
+pub other-bits : (x : ℤ) → (ofZ w16 x ≡ ofZ w16 (pos 0) → ⊥) → other0 x ≡ true
 other-bits x h = go (decLt 0 (natAbs x))
   where
     go : Dec (0 < natAbs x) → other0 x ≡ true
     go (yes p) = lt-ltb 0 (natAbs x) p
-    go (no p) = absurd (h (ap (ofZ w64) (abs-zero x (omega arith))))
+    go (no p) = absurd (h (ap (ofZ w16) (abs-zero x (omega arith))))
 
 -- ---- what remains of the numbers asked
 

@@ -14,27 +14,28 @@ ghost use Rattle.remains.specs.Remains.{other0, bitSum, Rests, Gathered,
 use adapted::adapted;
 use moments::copy;
 use moments::minus;
+use moments::narrow;
 use moments::plus;
 use signs::Places;
 use signs::digits_of;
 use signs::sign_by;
 
 // A sign times a number.
-fn scale(s: i64, x: i64) -> i64
+fn scale(s: i64, x: i16) -> i16
     requires { ⌜ (natAbs s ≤ 1) × (natAbs x ≤ 256) ⌝ }
     ensures { λ r. ⌜ r ≡ s *ℤ x ⌝ }
 {
-    s * x
+    narrow(s) * x
 }
 
 // Writes the digits of q to ones and twos and its number x to u, each at n, where x is not 0. Returns where the next one goes.
 fn gather_one(
     q: u16,
     i: usize,
-    x: i64,
+    x: i16,
     ones: &mut [u32],
     twos: &mut [u32],
-    u: &mut [i64],
+    u: &mut [i16],
     n: usize,
 ) -> usize
     requires { ⌜ (i ≤ 8) × (q < 3 ^ i) × (n < length (now ones)) × (n < length (now twos)) × (n < length (now u)) ⌝ }
@@ -58,10 +59,10 @@ fn gather_one(
 fn gather(
     l: &[u16],
     i: usize,
-    v: &[i64],
+    v: &[i16],
     ones: &mut [u32],
     twos: &mut [u32],
-    u: &mut [i64],
+    u: &mut [i16],
 ) -> usize
     requires { ⌜ (i ≤ 8) × Below (3 ^ i) (now l) × (length (now v) ≡ length (now l)) × Within 256 (now v) ⌝ }
     requires { ⌜ (length (now l) ≤ length (now ones)) × (length (now l) ≤ length (now twos)) × (length (now l) ≤ length (now u)) ⌝ }
@@ -78,11 +79,11 @@ fn gather(
 }
 
 // The query of the product with the digits a where the patterns with the digits ones and twos count as v says.
-fn query(a: Places, ones: &[u32], twos: &[u32], v: &[i64]) -> i64
+fn query(a: Places, ones: &[u32], twos: &[u32], v: &[i16]) -> i16
     requires { ⌜ (length (now ones) ≡ length (now v)) × (length (now twos) ≡ length (now v)) × (length (now v) ≤ 64) × Within 256 (now v) ⌝ }
     ensures { λ r. ⌜ (r ≡ bitSum (a .ones) (a .twos) (now (ones .entry)) (now (twos .entry)) (now (v .entry))) × (natAbs r ≤ 16384) ⌝ }
 {
-    let mut t: i64 = 0;
+    let mut t: i16 = 0;
     let mut j = 0;
     while j < v.len() {
         let x = v[j];
@@ -100,7 +101,7 @@ fn query(a: Places, ones: &[u32], twos: &[u32], v: &[i64]) -> i64
 }
 
 // Writes to r the numbers x asked of the products a of i polynomials, less their queries where the patterns count as v says.
-fn rests(x: &[i64], a: &[u16], i: usize, ones: &[u32], twos: &[u32], v: &[i64], r: &mut [i64])
+fn rests(x: &[i16], a: &[u16], i: usize, ones: &[u32], twos: &[u32], v: &[i16], r: &mut [i16])
     requires { ⌜ (i ≤ 8) × Below (3 ^ i) (now a) × (length (now x) ≡ length (now a)) × (length (now r) ≡ length (now a)) × Within 64 (now x) ⌝ }
     requires { ⌜ (length (now ones) ≡ length (now v)) × (length (now twos) ≡ length (now v)) × (length (now v) ≤ 64) × Within 256 (now v) ⌝ }
     ensures { λ _. ⌜ Rests i (now (a .entry)) (now (ones .entry)) (now (twos .entry)) (now (v .entry)) (now (x .entry)) (now (r .exit)) ⌝ }
@@ -119,12 +120,12 @@ fn rests(x: &[i64], a: &[u16], i: usize, ones: &[u32], twos: &[u32], v: &[i64], 
 fn remain(
     l: &[u16],
     i: usize,
-    x: &[i64],
+    x: &[i16],
     ones: &[u32],
     twos: &[u32],
-    v: &[i64],
+    v: &[i16],
     a: &mut [u16],
-    r: &mut [i64],
+    r: &mut [i16],
 )
     requires { ⌜ (i ≤ 8) × Rising (now l) × Below (3 ^ i) (now l) × (length (now l) ≤ 64) ⌝ }
     requires { ⌜ (length (now x) ≡ length (now l)) × (length (now a) ≡ length (now l)) × (length (now r) ≡ length (now l)) × Within 64 (now x) ⌝ }
@@ -140,7 +141,7 @@ fn remain(
 }
 
 // Writes to r what remains of the numbers x, asked of the adapted list of l, where the patterns low, of i polynomials too, have the numbers v.
-pub fn left_over(l: &[u16], low: &[u16], i: usize, x: &[i64], v: &[i64], r: &mut [i64])
+pub fn left_over(l: &[u16], low: &[u16], i: usize, x: &[i16], v: &[i16], r: &mut [i16])
     requires { ⌜ (i ≤ 8) × Rising (now l) × Below (3 ^ i) (now l) × (length (now l) ≤ 64) ⌝ }
     requires { ⌜ Below (3 ^ i) (now low) × (length (now low) ≤ 64) × (length (now v) ≡ length (now low)) × Within 256 (now v) ⌝ }
     requires { ⌜ (length (now x) ≡ length (now l)) × (length (now r) ≡ length (now l)) × Within 64 (now x) ⌝ }
@@ -149,7 +150,7 @@ pub fn left_over(l: &[u16], low: &[u16], i: usize, x: &[i64], v: &[i64], r: &mut
     let n = l.len();
     let mut ones = [0u32; 64];
     let mut twos = [0u32; 64];
-    let mut u = [0i64; 64];
+    let mut u = [0i16; 64];
     let mut a = [0u16; 64];
     left_with(
         l,
@@ -170,13 +171,13 @@ fn left_with(
     l: &[u16],
     low: &[u16],
     i: usize,
-    x: &[i64],
-    v: &[i64],
+    x: &[i16],
+    v: &[i16],
     ones: &mut [u32],
     twos: &mut [u32],
-    u: &mut [i64],
+    u: &mut [i16],
     a: &mut [u16],
-    r: &mut [i64],
+    r: &mut [i16],
 )
     requires { ⌜ (i ≤ 8) × Rising (now l) × Below (3 ^ i) (now l) × (length (now l) ≤ 64) ⌝ }
     requires { ⌜ Below (3 ^ i) (now low) × (length (now low) ≤ 64) × (length (now v) ≡ length (now low)) × Within 256 (now v) ⌝ }

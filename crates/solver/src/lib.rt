@@ -15,7 +15,8 @@ use adapted::having;
 use adapted::split;
 use moments::all_small;
 use moments::combine;
-use moments::copy;
+use moments::copy_small;
+use moments::copy_wide;
 use moments::put;
 use moments::second;
 use moments::third;
@@ -31,7 +32,7 @@ pub enum Solved {
 
 // The numbers of the patterns l of i polynomials whose queries on the adapted list are x. False where there are none whose absolute values add up to at
 // most 64: those of inner numbers are never larger, so an inner list whose are is refused too.
-fn solve_list(l: &[u16], i: usize, x: &[i64], out: &mut [i64]) -> bool
+fn solve_list(l: &[u16], i: usize, x: &[i16], out: &mut [i16]) -> bool
     requires { ⌜ (i ≤ 8) × Rising (now l) × Below (3 ^ i) (now l) × (length (now l) ≤ 64) ⌝ }
     requires { ⌜ (length (now x) ≡ length (now l)) × (length (now out) ≡ length (now l)) ⌝ }
     ensures { λ r. ⌜ Answer i (now (l .entry)) (now (x .entry)) (now (out .exit)) r ⌝ }
@@ -51,7 +52,7 @@ fn solve_list(l: &[u16], i: usize, x: &[i64], out: &mut [i64]) -> bool
 }
 
 // The same for at least two patterns of i + 1 polynomials.
-fn solve_split(l: &[u16], i: usize, x: &[i64], out: &mut [i64]) -> bool
+fn solve_split(l: &[u16], i: usize, x: &[i16], out: &mut [i16]) -> bool
     requires { ⌜ (i ≤ 7) × Rising (now l) × Below (3 ^ suc i) (now l) × (length (now l) ≤ 64) ⌝ }
     requires { ⌜ (length (now x) ≡ length (now l)) × (length (now out) ≡ length (now l)) × Within 64 (now x) ⌝ }
     ensures { λ r. ⌜ Answer (suc i) (now (l .entry)) (now (x .entry)) (now (out .exit)) r ⌝ }
@@ -70,11 +71,11 @@ fn solve_low(
     l: &[u16],
     i: usize,
     w: u16,
-    x: &[i64],
+    x: &[i16],
     low: &[u16],
     mark: &[u8],
     at: &[u8],
-    out: &mut [i64],
+    out: &mut [i16],
 ) -> bool
     requires { ⌜ (i ≤ 7) × (w ≡ 3 ^ i) × Rising (now l) × Below (3 ^ suc i) (now l) × (length (now l) ≤ 64) ⌝ }
     requires { ⌜ (length (now x) ≡ length (now l)) × (length (now out) ≡ length (now l)) × Within 64 (now x) ⌝ }
@@ -86,9 +87,9 @@ fn solve_low(
     let mut l3 = [0u16; 64];
     let n2 = having(low, mark, 2, &mut l2);
     let n3 = having(low, mark, 3, &mut l3);
-    let mut d = [0i64; 64];
-    let mut e = [0i64; 64];
-    let mut g = [0i64; 64];
+    let mut d = [0i16; 64];
+    let mut e = [0i16; 64];
+    let mut g = [0i16; 64];
     solve_with(
         l,
         i,
@@ -111,16 +112,16 @@ fn solve_with(
     l: &[u16],
     i: usize,
     w: u16,
-    x: &[i64],
+    x: &[i16],
     low: &[u16],
     mark: &[u8],
     at: &[u8],
     l2: &[u16],
     l3: &[u16],
-    d: &mut [i64],
-    e: &mut [i64],
-    g: &mut [i64],
-    out: &mut [i64],
+    d: &mut [i16],
+    e: &mut [i16],
+    g: &mut [i16],
+    out: &mut [i16],
 ) -> bool
     requires { ⌜ (i ≤ 7) × (w ≡ 3 ^ i) × Rising (now l) × Below (3 ^ suc i) (now l) × (length (now l) ≤ 64) ⌝ }
     requires { ⌜ (length (now x) ≡ length (now l)) × (length (now out) ≡ length (now l)) × Within 64 (now x) ⌝ }
@@ -146,7 +147,7 @@ fn solve_with(
 }
 
 // One of the later moments: v holds those known of the patterns low, and gets the others, those of l, whose marks have at least k signs.
-fn moment(l: &[u16], low: &[u16], mark: &[u8], k: usize, i: usize, x: &[i64], v: &mut [i64]) -> bool
+fn moment(l: &[u16], low: &[u16], mark: &[u8], k: usize, i: usize, x: &[i16], v: &mut [i16]) -> bool
     requires { ⌜ (i ≤ 7) × Rising (now l) × Below (3 ^ i) (now l) × (length (now l) ≤ 64) × (now l ≡ chosen k (now low) (now mark)) ⌝ }
     requires { ⌜ Below (3 ^ i) (now low) × (length (now low) ≤ 64) × (length (now mark) ≡ length (now low)) × Below 8 (now mark) ⌝ }
     requires { ⌜ (length (now x) ≡ length (now l)) × (length (now v) ≡ length (now low)) × Within 64 (now x) × Within 128 (now v) ⌝ }
@@ -156,8 +157,8 @@ fn moment(l: &[u16], low: &[u16], mark: &[u8], k: usize, i: usize, x: &[i64], v:
     if n == 0 {
         return true;
     }
-    let mut r = [0i64; 64];
-    let mut f = [0i64; 64];
+    let mut r = [0i16; 64];
+    let mut f = [0i16; 64];
     moment_with(l, low, mark, k, i, x, v, &mut r[..n], &mut f[..n])
 }
 
@@ -168,10 +169,10 @@ fn moment_with(
     mark: &[u8],
     k: usize,
     i: usize,
-    x: &[i64],
-    v: &mut [i64],
-    r: &mut [i64],
-    f: &mut [i64],
+    x: &[i16],
+    v: &mut [i16],
+    r: &mut [i16],
+    f: &mut [i16],
 ) -> bool
     requires { ⌜ (i ≤ 7) × Rising (now l) × Below (3 ^ i) (now l) × (length (now l) ≤ 64) × (now l ≡ chosen k (now low) (now mark)) ⌝ }
     requires { ⌜ Below (3 ^ i) (now low) × (length (now low) ≤ 64) × (length (now mark) ≡ length (now low)) × Below 8 (now mark) ⌝ }
@@ -208,20 +209,32 @@ pub fn solve(s: usize, patterns: &[u16], numbers: &[i64], out: &mut [i64]) -> So
     if out.len() < n {
         return Solved::Refused(15);
     }
-    let mut v = [0i64; 64];
-    solve_to(s, patterns, numbers, &mut v[..n], out)
+    let mut x = [0i16; 64];
+    let mut v = [0i16; 64];
+    solve_to(s, patterns, numbers, &mut x[..n], &mut v[..n], out)
 }
 
-// The same of a call that is well posed, where out has room, with room for the numbers.
-fn solve_to(s: usize, patterns: &[u16], numbers: &[i64], v: &mut [i64], out: &mut [i64]) -> Solved
-    requires { ⌜ (s ≤ 8) × (length (now patterns) ≤ 64) × (length (now patterns) ≤ length (now out)) × (length (now v) ≡ length (now patterns)) ⌝ }
+// The same of a call that is well posed, where out has room, with room for the numbers asked and for those found, which are small.
+fn solve_to(
+    s: usize,
+    patterns: &[u16],
+    numbers: &[i64],
+    x: &mut [i16],
+    v: &mut [i16],
+    out: &mut [i64],
+) -> Solved
+    requires { ⌜ (s ≤ 8) × (length (now patterns) ≤ 64) × (length (now patterns) ≤ length (now out)) ⌝ }
+    requires { ⌜ (length (now x) ≡ length (now patterns)) × (length (now v) ≡ length (now patterns)) ⌝ }
     requires { ⌜ Posed s (now patterns) (now numbers) ⌝ }
     ensures { λ r. ⌜ r ≡ answered (now (out .entry)) (solverOf s (now (patterns .entry)) (now (numbers .entry))) .0 ⌝ }
     ensures { λ _. ⌜ now (out .exit) ≡ answered (now (out .entry)) (solverOf s (now (patterns .entry)) (now (numbers .entry))) .1 ⌝ }
 {
-    if !solve_list(patterns, s, numbers, v) {
+    if !copy_small(numbers, x) {
         return Solved::Refused(12);
     }
-    copy(v, out);
+    if !solve_list(patterns, s, x, v) {
+        return Solved::Refused(12);
+    }
+    copy_wide(v, out);
     Solved::Found
 }

@@ -6,7 +6,7 @@ use borrow.Author.Count.{below-more}
 use borrow.Author.Needs.{needs}
 use lib.IntN.{ℤ, pos, natAbs}
 use lib.ListN.{length, getD}
-use Rattle.moments.proofs.Laws.{back, within-of, each-more}
+use Rattle.moments.proofs.Laws.{back, back-64, within-of, each-more}
 use Rattle.moments.proofs.all_small.Statement.{statement}
 use Rattle.moments.proofs.all_small.Tie as tie
 
@@ -25,15 +25,18 @@ mul-y c = search needs
 shared-slice-copy-out-y : tie.Need-shared-slice-copy-out-y Inv-loop μ-loop
 shared-slice-copy-out-y c = search needs
 
+wide-requires : tie.Need-wide-requires Inv-loop μ-loop
+wide-requires c κs = search needs
+
 magnitude-requires : tie.Need-magnitude-requires Inv-loop μ-loop
 magnitude-requires c κs = search needs
 
 returns : tie.Need-returns Inv-loop μ-loop
 returns c =
-    let at = c .before .before .before .before in
+    let at = c .before .before .before .before .before in
     let x = at .before .args .x .now in
     let y = getD x (at .loop .k) (pos 0) in
-    let e : c .before .magnitude .result ≡ natAbs y = c .before .magnitude .ensures ∙ rw (back y (search needs)) refl in
+    let e : c .before .magnitude .result ≡ natAbs y = c .before .magnitude .ensures ∙ rw (back-64 (c .before .before .wide .result) (search needs), c .before .before .wide .ensures, back y (search needs)) refl in
     λ w. omega (arith, w .at (at .loop .k))
 
 add-k : tie.Need-add-k Inv-loop μ-loop
@@ -46,10 +49,10 @@ loop-again : tie.Need-loop-again Inv-loop μ-loop
 loop-again c = (
   omega arith,
   (
-      let at = c .before .before .before .before in
+      let at = c .before .before .before .before .before in
       let x = at .before .args .x .now in
       let y = getD x (at .loop .k) (pos 0) in
-      let e : c .before .magnitude .result ≡ natAbs y = c .before .magnitude .ensures ∙ rw (back y (search needs)) refl in
+      let e : c .before .magnitude .result ≡ natAbs y = c .before .magnitude .ensures ∙ rw (back-64 (c .before .before .wide .result) (search needs), c .before .before .wide .ensures, back y (search needs)) refl in
       below-more (λ (j : ℕ). natAbs (getD x j (pos 0)) ≤ 64) (at .loop .k) (at .loop .inv .1) (omega arith)
       ),
 )
@@ -66,6 +69,7 @@ all-small-spec =
     loop-holds
     mul-y
     shared-slice-copy-out-y
+    wide-requires
     magnitude-requires
     returns
     add-k

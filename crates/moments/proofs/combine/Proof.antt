@@ -11,14 +11,14 @@ use borrow.Author.Tests.{eq-eqb, ne-eqb, le-leb, lt-leb}
 use lib.Dec.{leb, ltb}
 use lib.IntN.{ℤ, pos, natAbs, _+ℤ_, _-ℤ_, _*ℤ_}
 use lib.ListN.{length, getD, take, drop, set, length-set}
-use mir.Syntax.{w64}
+use mir.Syntax.{w16}
 use mir.Val.{toZ, ofZ}
 use Rattle.integers.specs.Sums.{Within, sumAbs}
 use Rattle.signs.proofs.Positions.{below-at}
 use Rattle.integers.specs.declared.Half.the-variants.{Whole, Odd}
 use Rattle.integers.proofs.Sums.{sumAbs-step, sumAbs-take, sumAbs-all, sumAbs-none}
 use Rattle.moments.specs.Moments.{NumberOf, NumberAt, Numbered, Combined}
-use Rattle.moments.proofs.Laws.{back, each-more}
+use Rattle.moments.proofs.Laws.{back, back-64, each-more}
 use Rattle.moments.proofs.Loops.{too-many, left-next}
 use Rattle.moments.proofs.combine.Statement.{statement}
 use Rattle.moments.proofs.combine.Tie as tie
@@ -131,13 +131,18 @@ returns-2 c =
     let n = number-is (c .before .before .before .before .before) in
     let m = c .before .magnitude in
     λ ws l f t. too-many (a .w) (at .loop .k) (at .loop .left) (m .result) (a .l .now) (a .at .now) (a .d .now) (a .e .now) (a .g .now) (at .loop .out) ws (u .0 .0)
-    (omega (arith, c .before .before .before .before .before .before .before .before .before .before .before .before .loop-test .taken)) (at .loop .inv .1 ∙ st .pre .0 .2) l (at .loop .inv .2) (at .loop .inv .3) (rw (u .1) at n) (m .ensures ∙ rw (back (u .0 .0) (search needs)) refl) (c .if1 .taken) f t
+    (omega (arith, c .before .before .before .before .before .before .before .before .before .before .before .before .loop-test .taken)) (at .loop .inv .1 ∙ st .pre .0 .2) l (at .loop .inv .2) (at .loop .inv .3) (rw (u .1) at n) (m .ensures ∙ rw (back-64 (u .0 .0) (search needs)) refl) (c .if1 .taken) f t
 
-mul-u : tie.Need-mul-u Inv-loop μ-loop
-mul-u c = search needs
+narrow-requires : tie.Need-narrow-requires Inv-loop μ-loop
+narrow-requires c κs =
+    let at = c .before .before .before .before .before .before .before .before .before .before .before .before .before in
+    omega (arith, c .before .magnitude .ensures, c .if1 .left, at .loop .inv .2)
 
-slice-set-from-u : tie.Need-slice-set-from-u Inv-loop μ-loop
-slice-set-from-u c = let at = c .before .before .before .before .before .before .before .before .before .before .before .before .before in omega (arith, at .loop .inv .1, at .before .before .before .pre .0 .2, c .before .before .before .before .before .before .before .before .before .before .before .before .loop-test .taken)
+mul-v : tie.Need-mul-v Inv-loop μ-loop
+mul-v c = search needs
+
+slice-set-from-v : tie.Need-slice-set-from-v Inv-loop μ-loop
+slice-set-from-v c = let at = c .before .before .before .before .before .before .before .before .before .before .before .before .before .before in omega (arith, at .loop .inv .1, at .before .before .before .pre .0 .2, c .before .before .before .before .before .before .before .before .before .before .before .before .before .loop-test .taken)
 
 add-k : tie.Need-add-k Inv-loop μ-loop
 add-k c = search needs
@@ -147,17 +152,18 @@ loop-less c = search needs
 
 loop-again : tie.Need-loop-again Inv-loop μ-loop
 loop-again c =
-    let at = c .before .before .before .before .before .before .before .before .before .before .before .before .before in
+    let at = c .before .before .before .before .before .before .before .before .before .before .before .before .before .before in
     let st = at .before .before .before in
     let a = st .args in
-    let u = c .before .before .before .h .given in
-    let n = number-is (c .before .before .before .before .before) in
-    let h : at .loop .k < length (at .loop .out) = omega (arith, at .loop .inv .1, st .pre .0 .2, c .before .before .before .before .before .before .before .before .before .before .before .before .loop-test .taken) in
-    let e = back (u .0 .0) (search needs) in (
-      omega (arith, c .before .before .before .before .before .before .before .before .before .before .before .before .loop-test .taken),
+    let u = c .before .before .before .before .h .given in
+    let n = number-is (c .before .before .before .before .before .before) in
+    let h : at .loop .k < length (at .loop .out) = omega (arith, at .loop .inv .1, st .pre .0 .2, c .before .before .before .before .before .before .before .before .before .before .before .before .before .loop-test .taken) in
+    let e = back-64 (u .0 .0) (search needs) in
+    let v = back (c .narrow .result) (search needs) ∙ c .narrow .ensures in (
+      omega (arith, c .before .before .before .before .before .before .before .before .before .before .before .before .before .loop-test .taken),
       length-set (at .loop .out) (at .loop .k) _ ∙ at .loop .inv .1,
-      left-next (at .loop .left) (c .before .magnitude .result) (at .loop .k) (at .loop .out) _ (at .loop .inv .2) h (c .before .magnitude .ensures) (omega (arith, c .if1 .left)),
-      each-more (λ j z. NumberAt (a .w) (a .l .now) (a .at .now) (a .d .now) (a .e .now) (a .g .now) j z) (at .loop .out) (at .loop .k) _ h (rw e (rw (u .1) at n)) (at .loop .inv .3),
+      left-next (at .loop .left) (c .before .before .magnitude .result) (at .loop .k) (at .loop .out) _ (at .loop .inv .2) h (c .before .before .magnitude .ensures ∙ ap natAbs (sym v)) (omega (arith, c .before .if1 .left)),
+      each-more (λ j z. NumberAt (a .w) (a .l .now) (a .at .now) (a .d .now) (a .e .now) (a .g .now) j z) (at .loop .out) (at .loop .k) _ h (rw (v, e) (rw (u .1) at n)) (at .loop .inv .3),
     )
 
 same-length-3 : tie.Need-same-length-3 Inv-loop μ-loop
@@ -198,8 +204,9 @@ combine-spec =
     magnitude-requires
     same-length-2
     returns-2
-    mul-u
-    slice-set-from-u
+    narrow-requires
+    mul-v
+    slice-set-from-v
     add-k
     loop-less
     loop-again

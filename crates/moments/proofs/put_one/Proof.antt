@@ -11,7 +11,7 @@ use borrow.Author.Tests.{eq-eqb, ne-eqb, le-leb, lt-leb}
 use lib.Dec.{leb, ltb}
 use lib.IntN.{ℤ, pos, natAbs, _+ℤ_, _-ℤ_, _*ℤ_}
 use lib.ListN.{length, getD, take, drop, set, length-set}
-use mir.Syntax.{w64}
+use mir.Syntax.{w16}
 use mir.Val.{toZ, ofZ}
 use Rattle.integers.specs.Sums.{Within}
 use Rattle.adapted.specs.Split.{countOf}
@@ -60,7 +60,7 @@ returns : tie.Need-returns
 returns c =
     let st = c .before .before .before .before .before in
     let e : leb (st .args .k) (countOf (st .args .m)) ≡ true = le-leb (st .args .k) (countOf (st .args .m)) (omega (arith, c .before .before .before .before .count .ensures, c .before .before .before .if1 .taken)) in
-    let z : toZ w64 (ofZ w64 (c .plus .result)) ≡ getD (st .args .v .now) (st .args .j) (pos 0) +ℤ getD (st .args .f .now) (st .args .n) (pos 0) =
+    let z : toZ w16 (ofZ w16 (c .plus .result)) ≡ getD (st .args .v .now) (st .args .j) (pos 0) +ℤ getD (st .args .f .now) (st .args .n) (pos 0) =
     back (c .plus .result) (search needs) ∙ c .plus .ensures
     ∙ rw (back (getD (st .args .v .now) (st .args .j) (pos 0)) (search needs), back (getD (st .args .f .now) (st .args .n) (pos 0)) (search needs)) refl in
     rw (e, z) (refl, refl)

@@ -11,7 +11,7 @@ use borrow.Author.Tests.{eq-eqb, ne-eqb, le-leb, lt-leb}
 use lib.Dec.{leb, ltb}
 use lib.IntN.{ℤ, pos, natAbs, _+ℤ_, _-ℤ_, _*ℤ_}
 use lib.ListN.{length, getD, take, drop, set, length-set}
-use mir.Syntax.{w64}
+use mir.Syntax.{w16}
 use mir.Val.{toZ, ofZ}
 use Rattle.integers.specs.Sums.{Within, sumAbs}
 use Rattle.signs.proofs.Positions.{below-at}

@@ -11,14 +11,14 @@ use borrow.Author.Tests.{eq-eqb, ne-eqb, le-leb, lt-leb}
 use lib.Dec.{leb, ltb}
 use lib.IntN.{ℤ, pos, natAbs, _+ℤ_, _-ℤ_, _*ℤ_, +ℤ-idl}
 use lib.ListN.{length, getD, take, drop, set, length-set}
-use mir.Syntax.{w64}
+use mir.Syntax.{w16}
 use mir.Val.{toZ, ofZ}
 use Rattle.integers.specs.Sums.{Within, sumAbs}
 use Rattle.signs.proofs.Positions.{below-at}
 use Rattle.integers.proofs.Abs.{abs-sum, abs-*-le}
 use Rattle.signs.specs.Bits.{signBits}
 use Rattle.remains.specs.Remains.{bitSum}
-use Rattle.moments.proofs.Laws.{back}
+use Rattle.moments.proofs.Laws.{back, back-64}
 use Rattle.remains.proofs.Sums.{sign-small}
 use Rattle.remains.proofs.Gathering.{query-next, query-last}
 use Rattle.remains.proofs.query.Statement.{statement}
@@ -31,7 +31,7 @@ use Rattle.signs.proofs.sign_by.Reads as sign-by-reads
 
 abbrev Inv-loop : tie.InvT-loop
 Inv-loop a ones twos v t₀ j₀ t j =
-    (j ≤ length v) × (toZ w64 t +ℤ bitSum (a .ones) (a .twos) (drop j ones) (drop j twos) (drop j v) ≡ bitSum (a .ones) (a .twos) ones twos v) × (natAbs (toZ w64 t) ≤ 256 * j)
+    (j ≤ length v) × (toZ w16 t +ℤ bitSum (a .ones) (a .twos) (drop j ones) (drop j twos) (drop j v) ≡ bitSum (a .ones) (a .twos) ones twos v) × (natAbs (toZ w16 t) ≤ 256 * j)
 
 abbrev μ-loop : tie.MeasureT-loop
 μ-loop a ones twos v t₀ j₀ t j = length v - j
@@ -64,14 +64,14 @@ sign-by-requires c κs = search needs
 product : (c : tie.After-scale Inv-loop μ-loop) →
     let at = c .before .before .before .before .before .before in
     let a = at .before .before .before .args in
-    toZ w64 (ofZ w64 (c .scale .result)) ≡ signBits (a .a .ones) (a .a .twos) (getD (a .ones .now) (at .loop .j) 0) (getD (a .twos .now) (at .loop .j) 0) *ℤ getD (a .v .now) (at .loop .j) (pos 0)
+    toZ w16 (ofZ w16 (c .scale .result)) ≡ signBits (a .a .ones) (a .a .twos) (getD (a .ones .now) (at .loop .j) 0) (getD (a .twos .now) (at .loop .j) 0) *ℤ getD (a .v .now) (at .loop .j) (pos 0)
 product c =
     let at = c .before .before .before .before .before .before in
     let a = at .before .before .before .args in
     back (c .scale .result) (search needs) ∙ c .scale .ensures
-    ∙ rw (back (c .before .sign-by .result) (search needs), back (getD (a .v .now) (at .loop .j) (pos 0)) (search needs), c .before .sign-by .ensures) refl
+    ∙ rw (back-64 (c .before .sign-by .result) (search needs), back (getD (a .v .now) (at .loop .j) (pos 0)) (search needs), c .before .sign-by .ensures) refl
 
-small : (c : tie.After-scale Inv-loop μ-loop) → natAbs (toZ w64 (ofZ w64 (c .scale .result))) ≤ 256
+small : (c : tie.After-scale Inv-loop μ-loop) → natAbs (toZ w16 (ofZ w16 (c .scale .result))) ≤ 256
 small c =
     let at = c .before .before .before .before .before .before in
     let st = at .before .before .before in
@@ -82,7 +82,7 @@ scale-requires c κs =
     let at = c .before .before .before .before .before in
     let st = at .before .before .before in
     let x = getD (st .args .v .now) (at .loop .j) (pos 0) in
-    rw (back (c .sign-by .result) (search needs), back x (search needs), c .sign-by .ensures)
+    rw (back-64 (c .sign-by .result) (search needs), back x (search needs), c .sign-by .ensures)
     (sign-small _ _ _ _, st .pre .3 .at (at .loop .j))
 
 plus-requires : tie.Need-plus-requires Inv-loop μ-loop
@@ -103,13 +103,13 @@ loop-again c =
     let a = st .args in
     let x = getD (a .v .now) (at .loop .j) (pos 0) in
     let k = c .before in
-    let e : c .plus .result ≡ toZ w64 (at .loop .t) +ℤ (signBits (a .a .ones) (a .a .twos) (getD (a .ones .now) (at .loop .j) 0) (getD (a .twos .now) (at .loop .j) 0) *ℤ x) =
-    c .plus .ensures ∙ ap (λ (z : ℤ). toZ w64 (at .loop .t) +ℤ z) (product k) in (
+    let e : c .plus .result ≡ toZ w16 (at .loop .t) +ℤ (signBits (a .a .ones) (a .a .twos) (getD (a .ones .now) (at .loop .j) 0) (getD (a .twos .now) (at .loop .j) 0) *ℤ x) =
+    c .plus .ensures ∙ ap (λ (z : ℤ). toZ w16 (at .loop .t) +ℤ z) (product k) in (
       omega arith,
-      query-next (a .a .ones) (a .a .twos) (at .loop .j) (a .ones .now) (a .twos .now) (a .v .now) (toZ w64 (at .loop .t)) _ _ (omega arith) (st .pre .0) (st .pre .1) (at .loop .inv .1)
+      query-next (a .a .ones) (a .a .twos) (at .loop .j) (a .ones .now) (a .twos .now) (a .v .now) (toZ w16 (at .loop .t)) _ _ (omega arith) (st .pre .0) (st .pre .1) (at .loop .inv .1)
           (back (c .plus .result) (search needs) ∙ e),
       rw (back (c .plus .result) (search needs), c .plus .ensures)
-          (omega (arith, abs-sum (toZ w64 (at .loop .t)) (toZ w64 (ofZ w64 (k .scale .result))), at .loop .inv .2, small k)),
+          (omega (arith, abs-sum (toZ w16 (at .loop .t)) (toZ w16 (ofZ w16 (k .scale .result))), at .loop .inv .2, small k)),
     )
 
 returns : tie.Need-returns Inv-loop μ-loop
@@ -117,7 +117,7 @@ returns c =
     let at = c .before in
     let st = at .before .before .before in
     let a = st .args in (
-      query-last (a .a .ones) (a .a .twos) (at .loop .j) (a .ones .now) (a .twos .now) (a .v .now) (toZ w64 (at .loop .t)) _ (omega (arith, st .pre .0)) (at .loop .inv .1),
+      query-last (a .a .ones) (a .a .twos) (at .loop .j) (a .ones .now) (a .twos .now) (a .v .now) (toZ w16 (at .loop .t)) _ (omega (arith, st .pre .0)) (at .loop .inv .1),
       omega (arith, at .loop .inv .2, st .pre .2),
     )
 
