@@ -26,6 +26,9 @@ const DONE: u64 = 65536;
 
 const REFUSED: u64 = 131072;
 
+// Given for rows that are not those of the item. No item has it.
+const WRONG: u64 = 4294967296;
+
 // One more than any question total.
 const TOTALS: u64 = 1024;
 
@@ -108,6 +111,16 @@ fn total(item: &[u8]) -> u64 {
 
 // ---- counts
 
+// Which count an item adds to.
+fn kind_of(item: &[u8]) -> usize {
+    match byte(item, 0) {
+        START => RUNS,
+        FETCH => FETCHES,
+        COPY => COPIES,
+        _ => ANSWERS,
+    }
+}
+
 // One more, up to the largest number.
 fn more(n: usize) -> usize {
     if n < usize::MAX { n + 1 } else { n }
@@ -132,16 +145,16 @@ fn note_result(tally: &mut [usize; KINDS], result: u64) {
     }
 }
 
-fn compare(tally: &mut [usize; KINDS], is_right: bool) {
-    if !is_right {
+// Counts an item, what its call gave, and whether this or the question total is not what the item says.
+fn enter(tally: &mut [usize; KINDS], item: &[u8], result: u64, asked: u64) {
+    note(tally, kind_of(item));
+    note_result(tally, result);
+    if result != stored(item) {
+        return note(tally, DIFFERENT);
+    }
+    if asked != total(item) {
         note(tally, DIFFERENT);
     }
-}
-
-// Counts what a call gave, and whether it is what the item says.
-fn take(tally: &mut [usize; KINDS], item: &[u8], result: u64) {
-    note_result(tally, result);
-    compare(tally, result == stored(item));
 }
 
 // ---- the calls
@@ -167,20 +180,16 @@ fn made(item: &[u8], run: Run) -> Answered {
     determination::answer(run, signed(eight(item, 5)))
 }
 
-fn play_step(item: &[u8], run: Run, tally: &mut [usize; KINDS]) -> Run {
-    let got = made(item, run);
-    let step = got.step;
-    take(tally, item, step_result(step));
-    got.run
-}
-
-fn play_fetch(item: &[u8], run: Run, tally: &mut [usize; KINDS]) {
+// What the item's fetch gives.
+fn fetched(item: &[u8], run: Run) -> u64 {
     match determination::fetch_row(run, eight(item, 5) as usize) {
         Fetched::Row(row) => {
-            take(tally, item, row.pattern.0 as u64);
-            compare(tally, row.count as u64 == pair(item, 13));
+            if row.count as u64 != pair(item, 13) {
+                return WRONG;
+            }
+            row.pattern.0 as u64
         }
-        Fetched::Refused(k) => take(tally, item, REFUSED + k as u64),
+        Fetched::Refused(k) => REFUSED + k as u64,
     }
 }
 
@@ -229,17 +238,21 @@ fn filled() -> [u16; ROOM]
     [FILLER; ROOM]
 }
 
-// Copies all rows to slices of the item's two lengths, which are parts of longer arrays.
-fn play_copy(item: &[u8], run: Run, tally: &mut [usize; KINDS]) {
+// What the item's copy gives, to slices of its two lengths, which are parts of longer arrays.
+fn copied(item: &[u8], run: Run) -> u64 {
     let a = wide(byte(item, 5)) as usize;
     let b = wide(byte(item, 6)) as usize;
     let n = rows_stored(item);
     let mut patterns = filled();
     let mut counts = filled();
-    let copied = determination::copy_rows(run, &mut patterns[..a], &mut counts[..b]);
-    take(tally, item, copy_result(copied));
-    compare(tally, is_left(item, 7, n, &patterns));
-    compare(tally, is_left(item, 7 + 2 * n, n, &counts));
+    let result = determination::copy_rows(run, &mut patterns[..a], &mut counts[..b]);
+    if !is_left(item, 7, n, &patterns) {
+        return WRONG;
+    }
+    if !is_left(item, 7 + 2 * n, n, &counts) {
+        return WRONG;
+    }
+    copy_result(result)
 }
 
 // ---- a file
@@ -261,31 +274,37 @@ fn size(item: &[u8]) -> usize
     13
 }
 
-// Which count an item adds to.
-fn kind_of(item: &[u8]) -> usize {
-    match byte(item, 0) {
-        START => RUNS,
-        FETCH => FETCHES,
-        COPY => COPIES,
-        _ => ANSWERS,
-    }
+// The record after a call, and what the call gave.
+struct Played {
+    run: Run,
+    result: u64,
 }
 
-// Makes the call of an item, and compares what it gives. The record after it.
-fn play(item: &[u8], run: Run, tally: &mut [usize; KINDS]) -> Run {
+// Makes the call of an item.
+fn play(item: &[u8], run: Run) -> Played {
     let kind = byte(item, 0);
     if kind == FETCH {
-        play_fetch(item, run, tally);
-        return run;
+        return Played {
+            run: run,
+            result: fetched(item, run),
+        };
     }
     if kind == COPY {
-        play_copy(item, run, tally);
-        return run;
+        return Played {
+            run: run,
+            result: copied(item, run),
+        };
     }
-    play_step(item, run, tally)
+    let got = made(item, run);
+    let step = got.step;
+    let after = got.run;
+    Played {
+        run: after,
+        result: step_result(step),
+    }
 }
 
-// Plays all items of a file, from a record that no run has begun with. After each the question total is compared.
+// Plays all items of a file, from a record that no run has begun with.
 fn play_all(file: &[u8], tally: &mut [usize; KINDS])
     requires { ⌜ length (now file) ≤ 65536 ⌝ }
 {
@@ -293,12 +312,14 @@ fn play_all(file: &[u8], tally: &mut [usize; KINDS])
     let mut at = 0;
     while at < file.len() {
         let item = &file[at..];
-        run = play(item, run, tally);
-        note(tally, kind_of(item));
-        compare(tally, determination::asked(run) as u64 == total(item));
+        let played = play(item, run);
+        run = played.run;
+        enter(tally, item, played.result, determination::asked(run) as u64);
         at += size(item);
     }
-    compare(tally, at == file.len());
+    if at != file.len() {
+        note(tally, DIFFERENT);
+    }
 }
 
 // Plays the file that argument i names.

@@ -29,20 +29,11 @@ part-item-end c = omega arith
 play-requires : tie.Need-play-requires Inv-loop μ-loop
 play-requires c κs = tt
 
-kind-of-requires : tie.Need-kind-of-requires Inv-loop μ-loop
-kind-of-requires c κs = tt
-
-note-requires : tie.Need-note-requires Inv-loop μ-loop
-note-requires c κs = tt
-
 asked-requires : tie.Need-asked-requires Inv-loop μ-loop
 asked-requires c κs = tt
 
-total-requires : tie.Need-total-requires Inv-loop μ-loop
-total-requires c κs = tt
-
-compare-requires : tie.Need-compare-requires Inv-loop μ-loop
-compare-requires c κs = tt
+enter-requires : tie.Need-enter-requires Inv-loop μ-loop
+enter-requires c κs = tt
 
 size-requires : tie.Need-size-requires Inv-loop μ-loop
 size-requires c κs = tt
@@ -56,11 +47,14 @@ loop-less c = omega arith
 loop-again : tie.Need-loop-again Inv-loop μ-loop
 loop-again c = omega arith
 
-compare-requires-2 : tie.Need-compare-requires-2 Inv-loop μ-loop
-compare-requires-2 c κs = tt
+note-requires : tie.Need-note-requires Inv-loop μ-loop
+note-requires c κs = tt
 
 returns : tie.Need-returns Inv-loop μ-loop
 returns c = tt
+
+returns-2 : tie.Need-returns-2 Inv-loop μ-loop
+returns-2 c = tt
 
 pub play-all-spec : {M : Type 1} → statement M
 play-all-spec =
@@ -74,14 +68,12 @@ play-all-spec =
     part-item-start
     part-item-end
     play-requires
-    kind-of-requires
-    note-requires
     asked-requires
-    total-requires
-    compare-requires
+    enter-requires
     size-requires
     add-at
     loop-less
     loop-again
-    compare-requires-2
-    returns)
+    note-requires
+    returns
+    returns-2)

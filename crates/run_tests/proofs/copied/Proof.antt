@@ -1,9 +1,9 @@
--- `run_tests::play_copy` is safe: a length of one byte is below that of the array. Assumes nothing.
+-- `run_tests::copied` is safe: a length of one byte is below that of the array. Assumes nothing.
 use native.Mathlib.Omega.{arith}
 use lib.ListN.{length-take}
 use borrow.Author.Needs.{needs}
-use Rattle.run_tests.proofs.play_copy.Statement.{statement}
-use Rattle.run_tests.proofs.play_copy.Tie as tie
+use Rattle.run_tests.proofs.copied.Statement.{statement}
+use Rattle.run_tests.proofs.copied.Tie as tie
 
 byte-requires : tie.Need-byte-requires
 byte-requires c κs = tt
@@ -41,35 +41,32 @@ slice-aggregate-copy-rows-2 c = simp length-take (omega arith)
 copy-rows-requires : tie.Need-copy-rows-requires
 copy-rows-requires c κs = tt
 
-copy-result-requires : tie.Need-copy-result-requires
-copy-result-requires c κs = tt
-
-take-requires : tie.Need-take-requires
-take-requires c κs = tt
-
 is-left-requires : tie.Need-is-left-requires
-is-left-requires c κs = search needs
-
-compare-requires : tie.Need-compare-requires
-compare-requires c κs = tt
-
-mul-is-left : tie.Need-mul-is-left
-mul-is-left c = search needs
-
-add-is-left : tie.Need-add-is-left
-add-is-left c = search needs
-
-is-left-requires-2 : tie.Need-is-left-requires-2
-is-left-requires-2 c κs = search needs
-
-compare-requires-2 : tie.Need-compare-requires-2
-compare-requires-2 c κs = tt
+is-left-requires c κs = omega arith
 
 returns : tie.Need-returns
 returns c = tt
 
-pub play-copy-spec : {M : Type 1} → statement M
-play-copy-spec =
+mul-is-left : tie.Need-mul-is-left
+mul-is-left c = omega arith
+
+add-is-left : tie.Need-add-is-left
+add-is-left c = omega arith
+
+is-left-requires-2 : tie.Need-is-left-requires-2
+is-left-requires-2 c κs = omega arith
+
+returns-2 : tie.Need-returns-2
+returns-2 c = tt
+
+copy-result-requires : tie.Need-copy-result-requires
+copy-result-requires c κs = tt
+
+returns-3 : tie.Need-returns-3
+returns-3 c = tt
+
+pub copied-spec : {M : Type 1} → statement M
+copied-spec =
     tie.close
     (tie.spec
     byte-requires
@@ -84,12 +81,11 @@ play-copy-spec =
     array-borrow-prefix-counts
     slice-aggregate-copy-rows-2
     copy-rows-requires
-    copy-result-requires
-    take-requires
     is-left-requires
-    compare-requires
+    returns
     mul-is-left
     add-is-left
     is-left-requires-2
-    compare-requires-2
-    returns)
+    returns-2
+    copy-result-requires
+    returns-3)
