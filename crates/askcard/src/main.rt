@@ -21,10 +21,9 @@ fn write_line(line: Line) -> bool {
     io::write_all(STDOUT_FILENO, &bytes[..n])
 }
 
-fn main() {
-    let mut card = [0u8; MOST_READ];
-    let n = io::read_full(STDIN_FILENO, &mut card);
-    let mut play = printout::begin(&card[..n]);
+// Writes the printout of a card, line by line.
+fn write_printout(card: &[u8]) {
+    let mut play = printout::begin(card);
     let mut k = 0;
     while k < printout::MOST_LINES {
         let next = printout::next_line(play);
@@ -36,4 +35,10 @@ fn main() {
         play = after;
         k += 1;
     }
+}
+
+fn main() {
+    let mut card = [0u8; MOST_READ];
+    let n = io::read_full(STDIN_FILENO, &mut card);
+    write_printout(&card[..n]);
 }

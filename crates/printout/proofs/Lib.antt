@@ -4,3 +4,4 @@ pub mod Edges
 pub mod Printing
 pub mod Texts
 pub mod Placing
+pub mod Calls
