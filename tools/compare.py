@@ -1,0 +1,287 @@
+#!/usr/bin/env python3
+"""Compares askcard with a second program that takes another route, on random cards, byte for byte.
+
+    tools/compare.py [--seed N] [--cards N] [PROGRAM]
+
+The route here: a card is parsed by slicing from the front; the pattern of a point comes straight from the values of the polynomials there; a
+query multiplies the values, exactly; the rows are the patterns counted; the adapted list of a round is found as 000 has it, the first
+products whose rows of signs are independent, by elimination over fractions where the list is short, else by its recursion over sets. There is
+no solver. The cards are those of examples/, inputs that are no cards, one of them slow and one long, and then cards drawn from the seed: sound
+ones of every size, and damaged ones, each cause of document 01's table among them.
+"""
+import argparse
+import collections
+import fractions
+import functools
+import glob
+import itertools
+import os
+import random
+import subprocess
+import sys
+import time
+
+LARGEST = 1_000_000
+
+
+# ---- the second program
+
+class Refused(Exception):
+    pass
+
+
+def parse(card):
+    """The polynomials, as lists of coefficients from the constant up, and the points."""
+    if len(card) < 4:
+        raise Refused(1)
+    kind, s, n, zero = card[:4]
+    if (kind, zero) != (1, 0):
+        raise Refused(2)
+    if s not in range(1, 9):
+        raise Refused(3)
+    if n > 64:
+        raise Refused(3)
+    contents, rest = card[4:6 + 2 * s], card[6 + 2 * s:]
+    if len(contents) < 2 * s + 2:
+        raise Refused(1)
+    offsets = [int.from_bytes(contents[k:k + 2], 'big') for k in range(0, len(contents), 2)]
+    polynomials = []
+    if offsets[0] != len(card) - len(rest):
+        raise Refused(4)
+    for following in offsets[1:]:
+        if not rest:
+            raise Refused(1)
+        degree, rest = rest[0], rest[1:]
+        if degree > 6:
+            raise Refused(5)
+        body, rest = rest[:4 * degree + 4], rest[4 * degree + 4:]
+        if len(body) < 4 * degree + 4:
+            raise Refused(1)
+        coefficients = [int.from_bytes(body[k:k + 4], 'big', signed=True) for k in range(0, len(body), 4)]
+        if max(map(abs, coefficients)) > LARGEST:
+            raise Refused(5)
+        if degree and not coefficients[-1]:
+            raise Refused(5)
+        if following != len(card) - len(rest):
+            raise Refused(4)
+        polynomials.append(coefficients)
+    if len(rest) != n:
+        raise Refused(1)
+    points = [x - 256 if x > 127 else x for x in rest]
+    if points != sorted(points) or any(abs(x) > 100 for x in points):
+        raise Refused(6)
+    return polynomials, points
+
+
+def digits(number, s):
+    return [number // 3 ** j % 3 for j in range(s)]
+
+
+def sign_of(x):
+    return (x > 0) - (x < 0)
+
+
+def query(values, product):
+    """values: of each polynomial, at each point."""
+    total = 0
+    for point in values:
+        v = 1
+        for x, power in zip(point, digits(product, len(point))):
+            v *= x ** power
+        total += sign_of(v)
+    return total
+
+
+def first_independent(patterns, s):
+    """000's way: of all products, in order, those whose signs on the patterns are independent of the earlier ones'."""
+    chosen, basis = [], []
+    for product in range(3 ** s):
+        powers = digits(product, s)
+        row = [fractions.Fraction(1) for _ in patterns]
+        for k, pattern in enumerate(patterns):
+            for digit, power in zip(digits(pattern, s), powers):
+                row[k] *= (0, 1, -1)[digit] ** power
+        for pivot, other in basis:
+            if row[pivot]:
+                scale = row[pivot] / other[pivot]
+                row = [x - scale * y for x, y in zip(row, other)]
+        pivot = next((k for k, x in enumerate(row) if x), None)
+        if pivot is not None:
+            basis.append((pivot, row))
+            chosen.append(product)
+        if len(chosen) == len(patterns):
+            break
+    return chosen
+
+
+def by_recursion(patterns, s):
+    if s == 0 or not patterns:
+        return [0 for _ in patterns]
+    weight = 3 ** (s - 1)
+    stood = collections.Counter(p % weight for p in patterns)
+    products = []
+    for power in range(3):
+        lows = {q for q, signs in stood.items() if signs > power}
+        products += [a + power * weight for a in by_recursion(lows, s - 1)]
+    return products
+
+
+@functools.lru_cache(maxsize=100_000)
+def adapted(patterns, s):
+    if s <= 3 and len(patterns) <= 12:
+        return first_independent(sorted(patterns), s)
+    return by_recursion(patterns, s)
+
+
+def printout(card):
+    try:
+        polynomials, points = parse(card)
+    except Refused as refused:
+        return f'R {refused.args[0]}\n'
+    s = len(polynomials)
+    values = [[sum(c * x ** k for k, c in enumerate(p)) for p in polynomials] for x in points]
+    patterns = [sum((0, 1, 2)[sign_of(v)] * 3 ** j for j, v in enumerate(point)) for point in values]
+    asked = [0]
+    for i in range(s if points else 0):
+        known = adapted(frozenset(p % 3 ** i for p in patterns), i)
+        asked += [a + 3 ** i for a in known] + [a + 2 * 3 ** i for a in known]
+    lines = [f'Q {a} {query(values, a)}' for a in asked]
+    lines += [f'S {p} {count}' for p, count in sorted(collections.Counter(patterns).items())]
+    lines.append(f'E {len(asked)}')
+    return '\n'.join(lines) + '\n'
+
+
+# ---- cards
+
+def write(polynomials, points, offsets=None, head=None):
+    bodies = [bytes([len(p) - 1]) + b''.join(c.to_bytes(4, 'big', signed=True) for c in p) for p in polynomials]
+    at, places = 6 + 2 * len(polynomials), []
+    for body in bodies:
+        places.append(at)
+        at += len(body)
+    places.append(at)
+    if offsets:
+        places = offsets(places)
+    head = head or bytes([1, len(polynomials), len(points), 0])
+    return head + b''.join((p % 65536).to_bytes(2, 'big') for p in places) + b''.join(bodies) + bytes(x % 256 for x in points)
+
+
+def polynomial(draw, points):
+    """Of every kind, most of them with roots among the points or between them, so that many patterns occur."""
+    kind = draw.random()
+    if kind < 0.04:
+        return [0]
+    if kind < 0.10:
+        return [draw.choice([-1, 1]) * draw.choice([1, LARGEST, draw.randint(1, LARGEST)])]
+    if kind < 0.20:
+        p = [draw.choice([-LARGEST, LARGEST, 0, draw.randint(-LARGEST, LARGEST)]) for _ in range(draw.randint(1, 7))]
+        return p if len(p) == 1 or p[-1] else p + [1] if len(p) < 7 else p[:-1] + [1]
+    for _ in range(20):
+        p = [draw.choice([-3, -1, 1, 2])]
+        for _ in range(draw.randint(1, 6)):
+            root = draw.choice(points) if points and draw.random() < 0.6 else draw.randint(-20, 20)
+            half = draw.random() < 0.2
+            a, b = (2, -2 * root - 1) if half else (1, -root)
+            p = [x + y for x, y in zip([b * c for c in p] + [0], [0] + [a * c for c in p])]
+            if max(map(abs, p)) > LARGEST:
+                break
+        else:
+            return p
+    return [draw.randint(-20, 20), 1]
+
+
+def sound(draw):
+    s = draw.choice([1, 2, 3, 3, 4, 5, 6, 7, 8, 8])
+    n = draw.choice([0, 1, 2, 3, draw.randint(4, 20), draw.randint(21, 64), 64])
+    reach = draw.choice([3, 10, 30, 100])
+    points = sorted(draw.randint(-reach, reach) for _ in range(n))
+    return [polynomial(draw, points) for _ in range(s)], points
+
+
+def damaged(draw):
+    polynomials, points = sound(draw)
+    card = bytearray(write(polynomials, points))
+    kind = draw.randrange(12)
+    if kind == 0:
+        return bytes(card[:draw.randrange(len(card))])
+    if kind == 1:
+        return bytes(card) + bytes(draw.randrange(256) for _ in range(draw.choice([1, 2, 300, 5000])))
+    if kind in (2, 3, 4):
+        for _ in range(draw.choice([1, 1, 2])):
+            card[draw.randrange(len(card))] = draw.choice([0, 1, 2, 7, 8, 9, 64, 65, 127, 128, 255, draw.randrange(256)])
+        return bytes(card)
+    if kind == 5:
+        card[draw.randrange(4)] = draw.randrange(256)
+        return bytes(card)
+    if kind == 6:
+        j, by = draw.randrange(len(polynomials) + 1), draw.choice([-1, 1, 256])
+        return write(polynomials, points, lambda places: [p + by * (k == j) for k, p in enumerate(places)])
+    if kind == 7:
+        p = draw.choice(polynomials)
+        p[draw.randrange(len(p))] = draw.choice([-1, 1]) * draw.choice([LARGEST, LARGEST + 1, 2 ** 31 - 1])
+        return write(polynomials, points)
+    if kind == 8:
+        p = draw.choice(polynomials)
+        p[-1] = 0
+        return write(polynomials, points)
+    if kind == 9 and points:
+        points[draw.randrange(len(points))] = draw.choice([-101, 101, -100, 100, -128, 127, 0])
+        return write(polynomials, points)
+    if kind == 10:
+        return bytes(draw.randrange(256) for _ in range(draw.randrange(330)))
+    head = bytes([1, draw.choice([0, 9, len(polynomials)]), draw.choice([65, 255, len(points)]), 0])
+    return write(polynomials, points, head=head)
+
+
+def fixed():
+    for name in sorted(glob.glob(os.path.join(os.path.dirname(__file__), '..', 'examples', '*.card'))):
+        with open(name, 'rb') as card:
+            yield card.read()
+    yield b''
+    yield b'\1'
+    yield b'\1' * 1_000_000
+
+
+def ask(program, card, slowly=False):
+    """What the program prints; where slowly, the card comes in pieces with pauses between them."""
+    told = subprocess.Popen([program], stdin=subprocess.PIPE, stdout=subprocess.PIPE)
+    try:
+        if slowly:
+            for k in range(0, len(card), 7):
+                told.stdin.write(card[k:k + 7])
+                told.stdin.flush()
+                time.sleep(0.005)
+        printed, _ = told.communicate(None if slowly else card)
+    except BrokenPipeError:
+        printed = told.stdout.read()
+        told.wait()
+    return printed if told.returncode == 0 else None
+
+
+def main():
+    words = argparse.ArgumentParser(description=__doc__.splitlines()[0])
+    words.add_argument('--seed', type=int, default=1)
+    words.add_argument('--cards', type=int, default=4000, help='how many; every third is damaged')
+    words.add_argument('program', nargs='?', default=os.path.join('target', 'bin', 'askcard'))
+    words = words.parse_args()
+    draw = random.Random(words.seed)
+    drawn = (damaged(draw) if number % 3 == 2 else write(*sound(draw)) for number in range(words.cards))
+    told = collections.Counter()
+    most = 0
+    cards = [(card, slowly) for card in fixed() for slowly in (False, True) if len(card) < 1000 or not slowly]
+    for number, (card, slowly) in enumerate(itertools.chain(cards, ((card, False) for card in drawn))):
+        want = printout(card)
+        got = ask(words.program, card, slowly)
+        if got != want.encode():
+            print(f'card {number} of seed {words.seed} differs: {card[:400].hex()}')
+            print(f'askcard:\n{got.decode(errors="replace") if got is not None else "failed"}\nthe second program:\n{want}', end='')
+            return 1
+        told[want.split()[1] if want.startswith('R') else 'sound'] += 1
+        most = max(most, want.count('Q'))
+    refused = ', '.join(f'{told[k]} by {k}' for k in sorted(told) if k != 'sound')
+    print(f'{sum(told.values())} cards, {told["sound"]} of them sound, the longest run {most} questions; refused: {refused}; no difference')
+    return 0
+
+
+if __name__ == '__main__':
+    sys.exit(main())
