@@ -1,0 +1,190 @@
+#!/usr/bin/env python3
+"""Writes data/cards and stdout: cards, sound and damaged, and their printouts, worked out from document 01 by another route.
+
+The reader is a second one. A query is the sum of the signs of the product's values, as whole numbers. The rows of a round are the patterns that the
+points have. An adapted list is found as document 000 has it: the first products, in rising order, whose rows of signs are independent.
+
+usage: generate.py (in the folder of this file)
+"""
+import random, struct
+from collections import Counter
+
+LIMIT = 65536
+PRIME = 2 ** 61 - 1
+
+
+class Refused(Exception):
+    pass
+
+
+def read(card):
+    """The polynomials, each a list of coefficients, and the points; or Refused with the number."""
+    if len(card) < 4:
+        raise Refused(1)
+    kind, s, n, zero = card[:4]
+    if kind != 1 or zero != 0:
+        raise Refused(2)
+    if not 1 <= s <= 8 or n > 64:
+        raise Refused(3)
+    at = 6 + 2 * s
+    if len(card) < at:
+        raise Refused(1)
+    offsets = struct.unpack('>%dH' % (s + 1), card[4:at])
+    if offsets[0] != at:
+        raise Refused(4)
+    polynomials = []
+    for j in range(s):
+        if at >= len(card):
+            raise Refused(1)
+        d = card[at]
+        if d > 6:
+            raise Refused(5)
+        if at + 5 + 4 * d > len(card):
+            raise Refused(1)
+        c = list(struct.unpack('>%di' % (d + 1), card[at + 1:at + 5 + 4 * d]))
+        if any(abs(a) > 10 ** 6 for a in c) or (d > 0 and c[d] == 0):
+            raise Refused(5)
+        polynomials.append(c)
+        at += 5 + 4 * d
+        if offsets[j + 1] != at:
+            raise Refused(4)
+    if len(card) - at != n:
+        raise Refused(1)
+    points = list(struct.unpack('>%db' % n, card[at:]))
+    if any(abs(p) > 100 for p in points) or any(a > b for a, b in zip(points, points[1:])):
+        raise Refused(6)
+    return polynomials, points
+
+
+def sign(x):
+    return (x > 0) - (x < 0)
+
+
+def powers(product, s):
+    return [product // 3 ** j % 3 for j in range(s)]
+
+
+def query(values, product):
+    """Over the points, each a list of the polynomials' values there."""
+    total = 0
+    for at in values:
+        v = 1
+        for x, k in zip(at, powers(product, len(at))):
+            v *= x ** k
+        total += sign(v)
+    return total
+
+
+def first_independent(patterns, i):
+    """The first products of i polynomials, rising, whose rows of signs on the patterns are independent."""
+    signs = [[(0, 1, -1)[q // 3 ** j % 3] for j in range(i)] for q in patterns]
+    base, chosen = [], []
+    for product in range(3 ** i):
+        if len(chosen) == len(patterns):
+            break
+        row = []
+        for sigma in signs:
+            v = 1
+            for x, k in zip(sigma, powers(product, i)):
+                v *= x ** k
+            row.append(v % PRIME)
+        for lead, other in base:
+            if row[lead]:
+                f = row[lead]
+                row = [(a - f * b) % PRIME for a, b in zip(row, other)]
+        lead = next((k for k, a in enumerate(row) if a), None)
+        if lead is not None:
+            inverse = pow(row[lead], PRIME - 2, PRIME)
+            base.append((lead, [a * inverse % PRIME for a in row]))
+            chosen.append(product)
+    assert len(chosen) == len(patterns)
+    return chosen
+
+
+def printout(card):
+    try:
+        polynomials, points = read(card)
+    except Refused as r:
+        return ['R %d' % r.args[0]]
+    s = len(polynomials)
+    values = [[sum(a * x ** k for k, a in enumerate(c)) for c in polynomials] for x in points]
+    patterns = [sum((0, 1, 2)[sign(v)] * 3 ** j for j, v in enumerate(at)) for at in values]
+    products = [0]
+    if points:
+        for i in range(s):
+            adapted = first_independent(sorted({q % 3 ** i for q in patterns}), i)
+            products += [a + 3 ** i for a in adapted] + [a + 2 * 3 ** i for a in adapted]
+    lines = ['Q %d %d' % (p, query(values, p)) for p in products]
+    lines += ['S %d %d' % row for row in sorted(Counter(patterns).items())]
+    return lines + ['E %d' % len(products)]
+
+
+def write(polynomials, points):
+    at, bodies, offsets = 6 + 2 * len(polynomials), b'', []
+    for c in polynomials:
+        offsets.append(at + len(bodies))
+        bodies += bytes([len(c) - 1]) + b''.join(struct.pack('>i', a) for a in c)
+    offsets.append(at + len(bodies))
+    return bytes([1, len(polynomials), len(points), 0]) + struct.pack('>%dH' % len(offsets), *offsets) + bodies + bytes(p % 256 for p in points)
+
+
+def times(a, b):
+    c = [0] * (len(a) + len(b) - 1)
+    for i, x in enumerate(a):
+        for j, y in enumerate(b):
+            c[i + j] += x * y
+    return c
+
+
+def sound(rng, points):
+    """Polynomials with roots among and between the points, so that patterns are many."""
+    polynomials = []
+    for _ in range(rng.randint(1, 8)):
+        c = [rng.choice([1, -1, 3])]
+        for _ in range(rng.choice([0, 1, 1, 2, 2, 3])):
+            c = times(c, [-rng.randint(-20, 20), 1])
+        polynomials.append(rng.choice([c, c, c, [rng.choice([0, 5, -5])]]))
+    return write(polynomials, sorted(rng.choice([-100, 100] + 9 * [rng.randint(-20, 20)]) for _ in range(points)))
+
+
+def damaged(rng):
+    """A sound card with a byte changed, cut, or longer."""
+    card = bytearray(sound(rng, rng.choice([0, 3, 10])))
+    where = rng.choice(['head', 'contents', 'any', 'points', 'cut', 'long'])
+    if where == 'cut':
+        del card[rng.randint(0, len(card) - 1):]
+    elif where == 'long':
+        card += bytes(rng.choice([1, 2, 300]))
+    else:
+        s = card[1]
+        low, high = {'head': (0, 4), 'contents': (4, 6 + 2 * s), 'points': (len(card) - 2, len(card))}.get(where, (0, len(card)))
+        i = rng.randrange(low, high)
+        card[i] = rng.choice([0, 1, (card[i] + 1) % 256, (card[i] - 1) % 256, 255, 128])
+    return bytes(card)
+
+
+def main():
+    rng = random.Random(13)
+    example = write([[0, 1], [1, 1], [-2, 1]], [-3, 1, 3])
+    longest = write([[1] * 7] * 8, range(-32, 32))
+    assert len(longest) == 318
+    cards = [example, b'', example[:3], example[:-1], example + b'\3', longest, longest + b'\x64', longest + bytes(200)]
+    cards += [write([[0, 1]], []), write([[0]] * 8, []), write([[0]] * 8, [5] * 64), write([[10 ** 6] * 7] * 8, [100] * 64)]
+    for at, byte in ((0, 0), (3, 1), (1, 0), (1, 9), (2, 65), (5, 13), (11, 38), (12, 7), (13, 1), (20, 0), (41, 101), (41, 0)):
+        cards.append(example[:at] + bytes([byte]) + example[at + 1:])
+    for name in ('heaviest-line', 'middling-line'):
+        with open('data/%s.card' % name, 'rb') as given:
+            cards.append(given.read())
+    cards += [sound(rng, rng.choice([1, 2, 5, 20, 64])) for _ in range(30)] + [damaged(rng) for _ in range(40)]
+    data = b''.join(struct.pack('>H', len(c)) + c for c in cards)
+    assert len(data) < LIMIT, len(data)
+    with open('data/cards', 'wb') as out:
+        out.write(data)
+    with open('stdout', 'w') as out:
+        for c in cards:
+            out.write(''.join(line + '\n' for line in printout(c)) + 'X 15 7\n')
+    ends = Counter(line if line[0] == 'R' else 'sound' for c in cards for line in printout(c)[-1:])
+    print(len(cards), 'cards,', len(data), 'bytes:', dict(ends), 'most questions', max(len([1 for l in printout(c) if l[0] == 'Q']) for c in cards))
+
+
+main()
