@@ -3,7 +3,7 @@
 
 usage: python3 tools/run_cases.py SEED CRATE
 
-SEED decides every byte. The committed files, CRATE/data/*.bin and CRATE/stdout, are made, in about a minute, by
+SEED decides every byte. The committed files, CRATE/data/*.bin and CRATE/stdout, are made, in some seconds, by
 
     python3 tools/run_cases.py 593 crates/run_tests
 
