@@ -1,7 +1,7 @@
 #!/usr/bin/env python3
 """Compares askcard with a second program that takes another route, on random cards, byte for byte.
 
-    tools/compare.py [--seed N] [--cards N] [PROGRAM]
+    tools/compare.py [--seed N] [--cards N] [PROGRAM]        (6,000 cards take half a minute)
 
 The route here: a card is parsed by slicing from the front; the pattern of a point comes straight from the values of the polynomials there; a
 query multiplies the values, exactly; the rows are the patterns counted; the adapted list of a round is found as 000 has it, the first
@@ -261,7 +261,7 @@ def ask(program, card, slowly=False):
 def main():
     words = argparse.ArgumentParser(description=__doc__.splitlines()[0])
     words.add_argument('--seed', type=int, default=1)
-    words.add_argument('--cards', type=int, default=4000, help='how many; every third is damaged')
+    words.add_argument('--cards', type=int, default=6000, help='how many to draw; every third is damaged')
     words.add_argument('program', nargs='?', default=os.path.join('target', 'bin', 'askcard'))
     words = words.parse_args()
     draw = random.Random(words.seed)

@@ -167,7 +167,7 @@ fn step_result(step: Step) -> u64 {
     }
 }
 
-// The start or the answer that the item asks for.
+// The start or the answer that the item asks for; an answer of eight bytes goes through the lent record.
 fn made(item: &[u8], run: Run) -> Answered {
     let kind = byte(item, 0);
     if kind <= LONGEST_SHORT {
@@ -177,7 +177,7 @@ fn made(item: &[u8], run: Run) -> Answered {
     if kind == START {
         return determination::start(eight(item, 5) as usize);
     }
-    determination::answer(run, signed(eight(item, 5)))
+    determination::answer_through(run, signed(eight(item, 5)))
 }
 
 // What the item's fetch gives.
