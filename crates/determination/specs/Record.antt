@@ -12,10 +12,10 @@
 --                       the test, stands for a closed run
 --   withAnswer r z, lateOn r == the round's answers with one more, and what an answer after the end gives
 --   startedOf s      == the record that a start for s polynomials gives, and the step: 3 outside 1 .. 8
-use mathlib.Core.Bool.{Bool, true, false, cond, _&&_}
+use mathlib.Core.Bool.{Bool, true, cond, _&&_}
 use mathlib.Core.List.{List, [], _∷_, _++_}
 use Prim.Native.Nat.{ℕ, suc, _+_, _*_, _-_, _^_}
-use lib.Dec.{eqb, leb, ltb}
+use lib.Dec.{eqb, leb}
 use lib.IntN.{ℤ}
 use lib.ListN.{take}
 use Rattle.signs.specs.Lists.{isBelow}

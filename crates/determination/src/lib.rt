@@ -1,5 +1,5 @@
-// The run (document 01, "The run"): its record by value, the start, an answer, a row fetch and a copy of all rows. The rules are in specs/Run,
-// and what a record stands for in them in specs/Record.
+// The run (document 01, "The run"): its record by value, the start, an answer, a row fetch and a copy of all rows. The rules are in the
+// crate `runs`, and what a record stands for in them in specs/Record.
 //
 // No public call has a condition: a record may hold anything. One that no start and no answer could have left is taken for a closed one: every
 // call on it gives 7 and leaves it as it was.
@@ -82,7 +82,8 @@ pub enum Copied {
     Refused(u16),
 }
 
-// The run record. Of `patterns`, `counts` and `products`, the adapted list, the first `rows` count, and of `answers` the first `answered`.
+// The run record. Of `patterns`, `counts` and `products`, the adapted list, the first `rows` count, and of `answers` the first `answered`. Answers fit
+// 8 bits: one outside −n .. n, n at most 64, is refused and not kept.
 #[repr(C)]
 pub struct Run {
     pub polynomials: usize,

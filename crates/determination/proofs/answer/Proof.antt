@@ -7,9 +7,9 @@ use borrow.Author.Tests.{not-true, not-false}
 use mir.Syntax.{w64}
 use mir.ValLaws.{toZ-ofZ}
 use Rattle.rounds.specs.RoundEnd.{roundRows}
-use Rattle.runs.specs.Run.{State, Step, answerOf}
+use Rattle.runs.specs.Run.{State, Step}
 use Rattle.runs.proofs.Steps.{answer-first, answer-later, not-late}
-use Rattle.determination.specs.Record.{isRunning, runningState, stateOf}
+use Rattle.determination.specs.Record.{isRunning, runningState}
 use Rattle.determination.proofs.Records.{running-is, answer-late}
 use Rattle.determination.proofs.answer.Statement.{statement}
 use Rattle.determination.proofs.answer.Tie as tie

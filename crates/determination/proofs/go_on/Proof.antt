@@ -1,11 +1,7 @@
 -- `determination::go_on` meets its contract: the new record stands for what the rules give. Assumes nothing.
-use mathlib.Core.Path.{_≡_}
 use native.Mathlib.Omega.{arith}
 use borrow.Author.Needs.{needs}
-use lib.IntN.{ℤ}
-use lib.Signed.{mag}
 use mir.Syntax.{w8, w64}
-use mir.Val.{SFits, toZ, ofZ}
 use mir.ValLaws.{toZ-ofZ}
 use Rattle.determination.proofs.Lengths.{lengths}
 use Rattle.determination.proofs.Records.{later-from, running-sound, sound-below}

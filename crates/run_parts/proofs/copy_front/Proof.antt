@@ -6,7 +6,7 @@ use native.Mathlib.Numerals.{add-one}
 use native.Mathlib.Omega.{arith}
 use borrow.Author.Needs.{needs}
 use lib.ListN.{length, getD, take, drop, set, length-append, length-drop}
-use lib.Seq.{length-take-le, take-length, take-suc, drop-cons, set-at}
+use lib.Seq.{length-take-le, take-suc, drop-cons, set-at}
 use Rattle.run_parts.proofs.copy_front.Statement.{statement}
 use Rattle.run_parts.proofs.copy_front.Tie as tie
 
