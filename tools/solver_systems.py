@@ -20,6 +20,15 @@ A file is one list after the other, each with its systems. A place of the output
     each system  a byte each: its kind (below), m, how many numbers it has, the length of the output slice, and the answer: 0, or the refusal's number;
                  then m numbers, a byte each; then, where the answer is 0, the r numbers found, a byte each
 
+The kinds, which the program counts by their numbers:
+
+    0 found, absolute values adding up to less than 64      1 found, adding up to 64      2, 3 refused (12), adding up to 65, to 66
+    4 refused (12), with halves      5 refused (12), a number far outside      6 numbers at random
+    7 no polynomials or too many (3)      8 a list that falls, 9 a pattern twice, 10 over 64 patterns, 11 a pattern past the last,
+    12 more or fewer numbers than patterns (11)      13 an output slice too short (15)      14 two of these causes at once
+
+Among them are output slices as long as the list and longer, and of kinds 8 to 13 most have numbers that would be refused by 12 too.
+
 A number's byte is 124 more than the number; 248 to 255 are numbers far outside (FAR).
 """
 

@@ -11,12 +11,12 @@ ghost use lib.ListN.{length};
 // Room for a list: more than any length that a byte can say.
 const ROOM: usize = 256;
 
-// How many kinds of systems there are, and the places after them where all systems and those that differ are counted.
-const KINDS: usize = 16;
+// How many kinds of systems there are (tools/solver_systems.py lists them), and the places after them where all systems and those that differ are counted.
+const KINDS: usize = 15;
 
-const ALL: usize = 16;
+const ALL: usize = 15;
 
-const UNLIKE: usize = 17;
+const UNLIKE: usize = 16;
 
 // What the output slice holds before a call, at each place as much more as the place says.
 const HELD: usize = 1000;
@@ -193,15 +193,15 @@ fn agrees(
 }
 
 // Counts one more. A count starts again from 0 after 4,294,967,295, which takes more files than there are.
-fn count(tally: &mut [u32; 18], k: usize)
-    requires { ⌜ k < 18 ⌝ }
+fn count(tally: &mut [u32; 17], k: usize)
+    requires { ⌜ k < 17 ⌝ }
 {
     let n = std::num::wrapping_add_u32(tally[k], 1);
     tally[k] = n;
 }
 
 // Counts a system of a kind, and whether it differs.
-fn note(tally: &mut [u32; 18], kind: usize, is_right: bool) {
+fn note(tally: &mut [u32; 17], kind: usize, is_right: bool) {
     count(tally, ALL);
     count(tally, kind % KINDS);
     if is_right {
@@ -216,7 +216,7 @@ fn compare_system(
     at: usize,
     s: usize,
     patterns: &[u16],
-    tally: &mut [u32; 18],
+    tally: &mut [u32; 17],
 ) -> usize
     requires { ⌜ (at < 700000) × (length (now patterns) < 256) ⌝ }
     ensures { λ r. ⌜ (at ≤ r) × (r ≤ at + 514) ⌝ }
@@ -240,7 +240,7 @@ fn compare_systems(
     q: usize,
     s: usize,
     patterns: &[u16],
-    tally: &mut [u32; 18],
+    tally: &mut [u32; 17],
 ) -> usize
     requires { ⌜ (at < 500000) × (q < 256) × (length (now patterns) < 256) ⌝ }
     ensures { λ r. ⌜ (at ≤ r) × (r ≤ at + 514 * q) ⌝ }
@@ -255,7 +255,7 @@ fn compare_systems(
 }
 
 // Compares the systems of the list at a place. Returns the place after them.
-fn compare_list(file: &[u8], at: usize, tally: &mut [u32; 18]) -> usize
+fn compare_list(file: &[u8], at: usize, tally: &mut [u32; 17]) -> usize
     requires { ⌜ at < 65536 ⌝ }
     ensures { λ r. ⌜ at < r ⌝ }
 {
@@ -269,7 +269,7 @@ fn compare_list(file: &[u8], at: usize, tally: &mut [u32; 18]) -> usize
 }
 
 // Compares the systems of every list of a file, and says so where the file does not end with the last of them.
-fn compare_all(file: &[u8], tally: &mut [u32; 18])
+fn compare_all(file: &[u8], tally: &mut [u32; 17])
     requires { ⌜ length (now file) ≤ 65536 ⌝ }
 {
     let mut at = 0;
@@ -282,7 +282,7 @@ fn compare_all(file: &[u8], tally: &mut [u32; 18])
 }
 
 // Compares the systems of the file that argument k names.
-fn compare_file(k: usize, tally: &mut [u32; 18]) {
+fn compare_file(k: usize, tally: &mut [u32; 17]) {
     let mut path = io::buffer();
     let length = os::arg(k, &mut path);
     let fd = os::open_read(&path[..length]);
@@ -296,41 +296,34 @@ fn compare_file(k: usize, tally: &mut [u32; 18]) {
     compare_all(&file[..n], tally);
 }
 
-fn print_count(n: u32, what: &[u8]) {
+fn print_number(n: u32) {
     io::print_decimal(STDOUT_FILENO, n as u64);
-    io::write_all(STDOUT_FILENO, what);
 }
 
-fn print_solved(tally: &[u32; 18]) {
-    print_count(
-        tally[0],
-        b" solved, absolute values adding up to less than 64\n",
-    );
-    print_count(tally[1], b" solved, adding up to 64\n");
-    print_count(tally[2], b" refused, adding up to 65\n");
-    print_count(tally[3], b" refused, adding up to 66\n");
-    print_count(tally[4], b" refused, with halves\n");
-    print_count(tally[5], b" refused, a number far outside\n");
-    print_count(tally[6], b" of numbers drawn at random\n");
+// Prints how many systems there are of kind k.
+fn print_kind(k: usize, n: u32) {
+    io::write_all(STDOUT_FILENO, b"kind ");
+    io::print_decimal(STDOUT_FILENO, k as u64);
+    io::write_all(STDOUT_FILENO, b": ");
+    print_number(n);
+    io::write_all(STDOUT_FILENO, b"\n");
 }
 
-fn print_refused(tally: &[u32; 18]) {
-    print_count(tally[7], b" of no polynomials or too many\n");
-    print_count(tally[8], b" of a list that falls\n");
-    print_count(tally[9], b" of a pattern standing twice\n");
-    print_count(tally[10], b" of over 64 patterns\n");
-    print_count(tally[11], b" of a pattern past the last\n");
-    print_count(tally[12], b" of more or fewer numbers than patterns\n");
-    print_count(tally[13], b" with a short output slice\n");
-    print_count(tally[14], b" with two causes\n");
+fn print_kinds(tally: &[u32; 17]) {
+    let mut k = 0;
+    while k < KINDS {
+        print_kind(k, tally[k]);
+        k += 1;
+    }
 }
 
 fn main() {
-    let mut tally = [0u32; 18];
+    let mut tally = [0u32; 17];
     compare_file(1, &mut tally);
     compare_file(2, &mut tally);
-    print_count(tally[ALL], b" systems, ");
-    print_count(tally[UNLIKE], b" differ\n");
-    print_solved(&tally);
-    print_refused(&tally);
+    print_number(tally[ALL]);
+    io::write_all(STDOUT_FILENO, b" systems, ");
+    print_number(tally[UNLIKE]);
+    io::write_all(STDOUT_FILENO, b" differ\n");
+    print_kinds(&tally);
 }
