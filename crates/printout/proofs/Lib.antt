@@ -5,3 +5,4 @@ pub mod Printing
 pub mod Texts
 pub mod Placing
 pub mod Calls
+pub mod NoPoints

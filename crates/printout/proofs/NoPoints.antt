@@ -1,0 +1,31 @@
+-- A card without points: "With no points that is `Q 0 0`, `E 1`" (document 01, "One card through"). Assumes nothing.
+use mathlib.Core.Path.{_≡_, refl, ap, ap₂, _∙_}
+use mathlib.Core.List.{List, [], _∷_, _++_, map}
+use Prim.Native.Nat.{ℕ}
+use lib.IntN.{ℤ, pos}
+use lib.ListN.{length}
+use Rattle.signs.specs.Lists.{Below, Rising, upTo}
+use Rattle.layout.specs.Format.{polynomials, points}
+use Rattle.card.specs.Sound.{Sound}
+use Rattle.query.specs.Query.{queryOf, patternAt, patternsOf}
+use Rattle.query.proofs.Answers.{query-none}
+use Rattle.rounds.specs.Rows.{Row, patterns, Positive, IsRows, realized}
+use Rattle.rounds.specs.Rows as rows
+use Rattle.rounds.proofs.Rounds.{realized-rows}
+use Rattle.lines.specs.Text.{questionLine, endLine}
+use Rattle.printout.specs.Printout.{questions, questionLines, rowLines, soundLines, linesOf}
+use Rattle.printout.proofs.Printing.{sound-lines}
+
+no-rows : (s : ℕ) → realized s [] ≡ []
+no-rows s = realized-rows s [] [] nothing (λ q h. unfold rows.points in refl)
+  where
+    nothing : IsRows s []
+    nothing = record { rising = unfold patterns Rising in tt; below = unfold patterns Below in tt; positive = unfold Positive in tt }
+
+-- the lines of a card whose points have the patterns E, from the query of product 0
+lines-with : (c : List ℕ) (z : ℤ) → patternsOf c ≡ [] → queryOf c 0 ≡ z → soundLines c ≡ (questionLine 0 z ∷ endLine 1 ∷ [])
+unfolding soundLines questionLines rowLines questions
+lines-with c z e f = rw (e, no-rows (polynomials c), f) refl
+
+pub no-points : (c : List ℕ) → Sound c → points c ≡ 0 → linesOf c ≡ (questionLine 0 (pos 0) ∷ endLine 1 ∷ [])
+no-points c S e = sound-lines c S ∙ lines-with c (pos 0) (unfold patternsOf upTo in ap (λ (n : ℕ). map (patternAt c) (upTo n)) e) (query-none c ∙ ap pos e)
