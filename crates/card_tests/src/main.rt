@@ -1,9 +1,17 @@
-// Reads the cards of the file that the first argument names, each after its length in two bytes, and writes what each call answers:
-// a line for the card, then one for each position up to the first past the last polynomial (of a refused card, position 0 alone).
+// Reads the cards of the file that the first argument names and writes what each call answers: a line for the card, then one for each position up to
+// the first past the last polynomial (of a refused card, position 0 alone), then one for each product.
+//
+// The file is one record after the other: the card's length and the number of products, two bytes each, then the card, then the products, two
+// bytes each. Numbers have the high byte first.
+ghost use Prim.Native.Nat.{_+_, _≤_, _<_};
+ghost use lib.ListN.{length};
 use card::Card;
 use card::Evaluated;
 use card::Stretch;
 use libc::STDOUT_FILENO;
+use query::Answer;
+use query::Opened;
+use signs::Product;
 
 fn put(b: u8) {
     io::write_all(STDOUT_FILENO, &[b]);
@@ -14,20 +22,12 @@ fn print_number(n: u64) {
     io::print_decimal(STDOUT_FILENO, n);
 }
 
-// The absolute value, also of the least number.
-fn magnitude(v: i64) -> u64 {
-    if v < 0 {
-        return ((0 - (v + 1)) as u64) + 1;
-    }
-    v as u64
-}
-
 fn print_signed(v: i64) {
     put(b' ');
     if v < 0 {
         put(b'-');
     }
-    io::print_decimal(STDOUT_FILENO, magnitude(v));
+    io::print_decimal(STDOUT_FILENO, integers::magnitude(v));
 }
 
 fn print_value(card: &[u8], j: usize, x: i8) {
@@ -48,7 +48,8 @@ fn weight(bytes: &[u8]) -> usize {
     sum
 }
 
-fn print_position(card: &[u8], j: usize) {
+// Where the body stands, or the number that refuses the card or the position.
+fn print_place(card: &[u8], j: usize) {
     match card::locate(card, j) {
         Stretch::At { start, len } => {
             put(b'A');
@@ -60,9 +61,17 @@ fn print_position(card: &[u8], j: usize) {
             print_number(number as u64);
         }
     }
+}
+
+fn print_body(card: &[u8], j: usize) {
     let bytes = card::body(card, j);
     print_number(bytes.len() as u64);
     print_number(weight(bytes) as u64);
+}
+
+fn print_position(card: &[u8], j: usize) {
+    print_place(card, j);
+    print_body(card, j);
     print_value(card, j, -128);
     print_value(card, j, -1);
     print_value(card, j, 100);
@@ -96,17 +105,57 @@ fn print_card(card: &[u8]) {
     }
 }
 
-fn print_cards(cards: &[u8]) {
+// The answer of a query: its number, or R and the number that refuses it.
+fn print_answer(answer: Answer) {
+    match answer {
+        Answer::Number(sum) => print_signed(sum),
+        Answer::Refused(number) => {
+            put(b' ');
+            put(b'R');
+            print_number(number as u64);
+        }
+    }
+}
+
+// The product, and its query on the card in one call and on the opened card.
+fn print_query(card: &[u8], opened: Opened, a: u16) {
+    put(b'Q');
+    print_number(a as u64);
+    print_answer(query::query(card, Product(a)));
+    print_answer(query::ask(opened, Product(a)));
+    put(b'\n');
+}
+
+// The two bytes from byte at on, high byte first.
+fn pair(bytes: &[u8], at: usize) -> usize
+    requires { ⌜ at + 2 ≤ length (now bytes) ⌝ }
+    ensures { λ r. ⌜ r < 65536 ⌝ }
+{
+    layout::wide(bytes[at]) * 256 + layout::wide(bytes[at + 1])
+}
+
+fn print_queries(card: &[u8], products: &[u8]) {
+    let opened = query::open(card);
     let mut at = 0;
-    while 2 <= cards.len() - at {
-        let len = layout::wide(cards[at]) * 256 + layout::wide(cards[at + 1]);
-        let from = at + 2;
-        if cards.len() - from < len {
+    while 2 <= products.len() - at {
+        print_query(card, opened, pair(products, at) as u16);
+        at += 2;
+    }
+}
+
+fn print_cards(file: &[u8]) {
+    let mut at = 0;
+    while 4 <= file.len() - at {
+        let from = at + 4;
+        let to = from + pair(file, at);
+        let end = to + 2 * pair(file, at + 2);
+        if file.len() < end {
             return;
         }
-        let to = from + len;
-        print_card(&cards[from..to]);
-        at = to;
+        let card = &file[from..to];
+        print_card(card);
+        print_queries(card, &file[to..end]);
+        at = end;
     }
 }
 
@@ -118,8 +167,8 @@ fn main() {
         os::fail(&path[..length]);
         return;
     }
-    let mut cards = io::large_buffer();
-    let n = io::read_full(fd, &mut cards);
+    let mut file = io::large_buffer();
+    let n = io::read_full(fd, &mut file);
     libc::close(fd);
-    print_cards(&cards[..n]);
+    print_cards(&file[..n]);
 }

@@ -1,6 +1,6 @@
 pub mod Patterns
-pub mod Marking
-pub mod Summing
+pub mod Words
+pub mod Counting
 pub mod Opening
 pub mod Products
 pub mod Answers

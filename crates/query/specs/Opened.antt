@@ -1,58 +1,86 @@
--- An opened card, and the query by its digits. Assumes nothing: these are definitions. That the answer of an opened card is `queryAnswer` of the card
--- is a law.
+-- An opened card, and the query by its words. Assumes nothing: these are definitions. That the answer of an opened card is `queryAnswer` of the card
+-- is a law, and so is that the operations on words give the sum.
 --
---   markOf c d s k == the polynomials, of the first s, whose sign digit at point k is d, one bit each; none past the last point
---   Marks c d s l  == l holds these, for 64 points
---   marks c d      == the same for all polynomials, as a list
---   evaluated c    == a sound card c opened: its s, n and the digits of its points
---   refused m      == a card refused by the number m: no polynomials and no points
---   opened c       == the card c opened
---   summed ones twos a₁ a₂ n == the sum of the signs of the product with powers 1 at a₁ and 2 at a₂ over the first n points
---   unlimited o    == s is outside 1 .. 8, or n is above 64
---   refusedBy o α  == the number that refuses the opened card o or the product α, or 0: 3 where its own number is none of a card's, its own number,
---                     3 where s or n is outside its limits, 13 for the product. No card opens to the first or the third: an opened card may hold anything
---   answer o α     == what an opened card answers: that number, else the sum
-use mathlib.Core.Path.{_≡_}
+--   bitAt w k       == bit k of the word w
+--   wordOf f n      == the word whose bit k is f k, for the first n bits
+--   signBit c d j k == 1 where the sign digit of polynomial j at point k is d, else 0
+--   signWord c d j  == the points where the sign digit of polynomial j is d, one bit each
+--   wordIn c d s j  == the same for the first s polynomials, and 0 for those after them
+--   wordsOf c d     == these words for all polynomials, eight in all
+--   evaluated c     == a sound card c opened: its s, n and the words of its signs, + and −
+--   refused m       == a card refused by the number m: no polynomials and no points
+--   opened c        == the card c opened
+--   digitBy u v     == the sign digit where the bit of `positive` is u and that of `negative` is v: 2 where v is set, else u
+--   columnTo o s k  == the pattern number of point k: of the first s polynomials, the sign digit that bit k of their words says
+--   summed o α      == the sum of the signs of the product α over the points of the opened card o, by their columns
+--   unlimited o     == s is outside 1 .. 8, or n is above 64
+--   refusedBy o α   == the number that refuses the opened card o or the product α, or 0: 3 where its own number is none of a card's, its own number,
+--                      3 where s or n is outside its limits, 13 for the product. No card opens to the first or the third: an opened card may hold anything
+--   answer o α      == what an opened card answers: that number, else the sum
 use mathlib.Core.Bool.{Bool, cond, _||_}
 use mathlib.Core.List.{List, map}
-use Prim.Native.Nat.{ℕ, _^_}
-use lib.Dec.{ltb, leb}
+use Prim.Native.Nat.{ℕ, zero, suc, _+_, _*_, _/_, _%_, _^_}
+use lib.Dec.{eqb, ltb, leb}
 use lib.IntN.{ℤ}
-use lib.ListN.{length, getD, replicate}
+use lib.ListN.{getD, replicate}
 use Rattle.integers.specs.Sums.{sumTo}
 use Rattle.signs.specs.Lists.{upTo}
-use Rattle.signs.specs.Bits.{places, signBits}
+use Rattle.signs.specs.Signs.{sign}
+use Rattle.signs.specs.Bits.{bitOf}
 use Rattle.layout.specs.Limits.{most-polynomials, most-points}
 use Rattle.layout.specs.Format.{polynomials, points}
+use Rattle.layout.specs.Values.{value-of, sign-digit}
 use Rattle.card.specs.Numbers.{wrong-count, wrong-point, _when_, _▸_}
 use Rattle.card.specs.Card.{refusal}
 use Rattle.card.specs.Answers.{unless}
 use Rattle.query.specs.declared.Answer.{Answer}
 use Rattle.query.specs.declared.Answer.the-variants as of-query
 use Rattle.query.specs.declared.Opened as opened-card
-use Rattle.query.specs.Query.{patternTo, wrong-product}
+use Rattle.query.specs.Query.{wrong-product}
 
-unfoldable pub markOf : List ℕ → ℕ → ℕ → ℕ → ℕ
-markOf c d s k = cond (ltb k (points c)) (places d s (patternTo c s k)) 0
+-- ---- words
 
-pub record Marks (c : List ℕ) (d s : ℕ) (l : List ℕ) : Type 0 where
-  pub long : length l ≡ most-points
-  pub at : (k : ℕ) → getD l k 0 ≡ markOf c d s k
+unfoldable pub bitAt : ℕ → ℕ → ℕ
+bitAt w k = w / 2 ^ k % 2
 
-unfoldable pub marks : List ℕ → ℕ → List ℕ
-marks c d = map (markOf c d (polynomials c)) (upTo most-points)
+unfoldable pub wordOf : (ℕ → ℕ) → ℕ → ℕ
+wordOf f zero = 0
+wordOf f (suc n) = wordOf f n + f n * 2 ^ n
+
+-- ---- a card opened
+
+abbrev pub signBit : List ℕ → ℕ → ℕ → ℕ → ℕ
+signBit c d j k = bitOf (sign-digit (value-of c j k)) d
+
+abbrev pub signWord : List ℕ → ℕ → ℕ → ℕ
+signWord c d j = wordOf (signBit c d j) (points c)
+
+unfoldable pub wordIn : List ℕ → ℕ → ℕ → ℕ → ℕ
+wordIn c d s j = cond (ltb j s) (signWord c d j) 0
+
+unfoldable pub wordsOf : List ℕ → ℕ → List ℕ
+wordsOf c d = map (wordIn c d (polynomials c)) (upTo most-polynomials)
 
 abbrev pub evaluated : List ℕ → opened-card.Opened
-evaluated c = record { refusal = 0; s = polynomials c; n = points c; ones = marks c 1; twos = marks c 2 }
+evaluated c = record { refusal = 0; s = polynomials c; n = points c; positive = wordsOf c 1; negative = wordsOf c 2 }
 
 abbrev pub refused : ℕ → opened-card.Opened
-refused m = record { refusal = m; s = 0; n = 0; ones = replicate most-points 0; twos = replicate most-points 0 }
+refused m = record { refusal = m; s = 0; n = 0; positive = replicate most-polynomials 0; negative = replicate most-polynomials 0 }
 
 unfoldable pub opened : List ℕ → opened-card.Opened
 opened c = unless (refusal c) refused (evaluated c)
 
-unfoldable pub summed : List ℕ → List ℕ → ℕ → ℕ → ℕ → ℤ
-summed ones twos a₁ a₂ n = sumTo (λ k. signBits a₁ a₂ (getD ones k 0) (getD twos k 0)) n
+-- ---- what it answers
+
+abbrev pub digitBy : ℕ → ℕ → ℕ
+digitBy u v = cond (eqb v 1) 2 u
+
+unfoldable pub columnTo : opened-card.Opened → ℕ → ℕ → ℕ
+columnTo o zero k = 0
+columnTo o (suc s) k = columnTo o s k + digitBy (bitAt (getD (o .positive) s 0) k) (bitAt (getD (o .negative) s 0) k) * 3 ^ s
+
+unfoldable pub summed : opened-card.Opened → ℕ → ℤ
+summed o α = sumTo (λ k. sign (o .s) α (columnTo o (o .s) k)) (o .n)
 
 abbrev pub unlimited : opened-card.Opened → Bool
 unlimited o = ltb (o .s) 1 || (ltb most-polynomials (o .s) || ltb most-points (o .n))
@@ -65,6 +93,4 @@ refusedBy o α =
     ▸ wrong-product when leb (3 ^ o .s) α
 
 unfoldable pub answer : opened-card.Opened → ℕ → Answer
-answer o α =
-    unless (refusedBy o α) of-query.Refused
-    (of-query.Number (summed (o .ones) (o .twos) (places 1 (o .s) α) (places 2 (o .s) α) (o .n)))
+answer o α = unless (refusedBy o α) of-query.Refused (of-query.Number (summed o α))

@@ -3,22 +3,22 @@
 // A card is opened once, and then answers any number of products with no polynomial evaluated again. No public call has a condition: any bytes, any
 // product number and any opened card have an answer, and what is lent stays as it was.
 ghost use mathlib.Core.Path.{_≡_};
-ghost use Prim.Native.Nat.{_+_, _^_, _≤_, _<_};
-ghost use lib.IntN.{natAbs};
+ghost use mathlib.Core.Bool.{cond};
+ghost use Prim.Native.Nat.{_*_, _-_, _^_, _≤_, _<_};
+ghost use lib.Bits.{bitAnd, bitOr, bitXor};
+ghost use lib.Count.{ones};
+ghost use lib.Dec.{eqb};
+ghost use lib.IntN.{pos, _-ℤ_};
 ghost use Rattle.layout.specs.Format.{polynomials, points, points-at};
-ghost use Rattle.layout.specs.Body.{Small};
-ghost use Rattle.layout.specs.Values.{value, sign-digit};
 ghost use Rattle.card.specs.Sound.{Sound};
-ghost use Rattle.query.specs.Opened.{Marks, evaluated, opened, answer, summed};
+ghost use Rattle.query.specs.Opened.{signWord, evaluated, opened, summed, answer};
 ghost use Rattle.query.specs.Query.{queryAnswer};
 use card::Card;
 use card::numbers;
 use layout::values;
-use signs::Places;
 use signs::Product;
-use signs::digits_of;
+use signs::digit;
 use signs::power;
-use signs::sign_by;
 
 // The numbers that refuse (document 01, "Cause, and what the caller gets"): those of `card`, as wide as a run's, and that of a product.
 const NONE: u16 = numbers::NONE as u16; // not refused
@@ -34,53 +34,50 @@ const MOST_POLYNOMIALS: usize = numbers::MOST_POLYNOMIALS as usize;
 
 const MOST_POINTS: usize = numbers::MOST_POINTS as usize;
 
+// Every bit of a word.
+const EVERY: u64 = 0xffff_ffff_ffff_ffff;
+
 // The query of a product, or the number that refuses the card or the product.
 pub enum Answer {
     Number(i64),
     Refused(u16),
 }
 
-// An opened card: the number that refuses it, or 0, its s polynomials and n points, and the sign digits of each point, the first n: in `ones` bit j
-// is set where P(j+1) is positive at the point, in `twos` where it is negative.
+// An opened card: the number that refuses it, or 0, its s polynomials and n points, and their signs there: in `positive[j]` bit k is set where P(j+1) is
+// positive at point k, in `negative[j]` where it is negative. Where both are set it is taken for negative; bits past the first n count for nothing.
+#[repr(C)]
 pub struct Opened {
     pub refusal: u16,
     pub s: usize,
     pub n: usize,
-    pub ones: [u32; MOST_POINTS],
-    pub twos: [u32; MOST_POINTS],
+    pub positive: [u64; MOST_POLYNOMIALS],
+    pub negative: [u64; MOST_POLYNOMIALS],
 }
 
-// The weight of bit j.
-fn weight(j: usize) -> u32
-    requires { ⌜ j < 8 ⌝ }
-    ensures { λ r. ⌜ r ≡ 2 ^ j ⌝ }
-{
-    1 << j
+// The points where one polynomial is positive, and those where it is negative, one bit each.
+struct Signs {
+    positive: u64,
+    negative: u64,
 }
 
-// The digit of the sign at x of the polynomial that begins at byte at.
-fn sign_at(card: &[u8], at: usize, x: i64) -> u16
-    requires { ⌜ Small (now card) at × (natAbs x ≤ 128) ⌝ }
-    ensures { λ r. ⌜ r ≡ sign-digit (value (now (card .entry)) at x) ⌝ }
-{
-    let p = values::polynomial(card, at);
-    values::sign(&p, x)
-}
-
-// Sets the bits of polynomial j at the n points, which begin at byte from.
-fn mark(card: &[u8], j: usize, from: usize, n: usize, ones: &mut [u32], twos: &mut [u32])
+// The signs of polynomial j at the n points, which begin at byte from, the last point first.
+fn mark(card: &[u8], j: usize, from: usize, n: usize) -> Signs
     requires { ⌜ Sound (now card) × (j < polynomials (now card)) × (from ≡ points-at (now card)) × (n ≡ points (now card)) ⌝ }
-    requires { ⌜ Marks (now card) 1 j (now ones) × Marks (now card) 2 j (now twos) ⌝ }
-    ensures { λ _. ⌜ Marks (now (card .entry)) 1 (j + 1) (now (ones .exit)) × Marks (now (card .entry)) 2 (j + 1) (now (twos .exit)) ⌝ }
+    ensures { λ r. ⌜ (r .positive ≡ signWord (now (card .entry)) 1 j) × (r .negative ≡ signWord (now (card .entry)) 2 j) ⌝ }
 {
-    let at = layout::offset(card, j);
-    let w = weight(j);
-    let mut k = 0;
-    while k < n {
-        let d = sign_at(card, at, layout::point(card, from, k));
-        ones[k] = ones[k] + signs::bit(d, 1) as u32 * w;
-        twos[k] = twos[k] + signs::bit(d, 2) as u32 * w;
-        k += 1;
+    let p = values::polynomial(card, layout::offset(card, j));
+    let mut positive: u64 = 0;
+    let mut negative: u64 = 0;
+    let mut k = n;
+    while 0 < k {
+        k -= 1;
+        let d = values::sign(&p, layout::point(card, from, k));
+        positive = 2 * positive + signs::bit(d, 1) as u64;
+        negative = 2 * negative + signs::bit(d, 2) as u64;
+    }
+    Signs {
+        positive: positive,
+        negative: negative,
     }
 }
 
@@ -90,19 +87,21 @@ fn evaluate(card: &[u8], s: usize, n: usize) -> Opened
     ensures { λ r. ⌜ r ≡ evaluated (now (card .entry)) ⌝ }
 {
     let from = layout::offset(card, s);
-    let mut ones = [0u32; MOST_POINTS];
-    let mut twos = [0u32; MOST_POINTS];
+    let mut positive = [0u64; MOST_POLYNOMIALS];
+    let mut negative = [0u64; MOST_POLYNOMIALS];
     let mut j = 0;
     while j < s {
-        mark(card, j, from, n, &mut ones, &mut twos);
+        let marked = mark(card, j, from, n);
+        positive[j] = marked.positive;
+        negative[j] = marked.negative;
         j += 1;
     }
     Opened {
         refusal: NONE,
         s,
         n,
-        ones,
-        twos,
+        positive,
+        negative,
     }
 }
 
@@ -117,33 +116,68 @@ pub fn open(card: &[u8]) -> Opened
             refusal: m as u16,
             s: 0,
             n: 0,
-            ones: [0u32; MOST_POINTS],
-            twos: [0u32; MOST_POINTS],
+            positive: [0u64; MOST_POLYNOMIALS],
+            negative: [0u64; MOST_POLYNOMIALS],
         },
     }
 }
 
-// The sum of a product's signs over the points of an opened card, by digits.
-fn sum(card: Opened, product: Places) -> i64
-    requires { ⌜ card .n ≤ 64 ⌝ }
-    ensures { λ r. ⌜ r ≡ summed (card .ones) (card .twos) (product .ones) (product .twos) (card .n) ⌝ }
+// The first n points, one bit each.
+fn first(n: usize) -> u64
+    requires { ⌜ n ≤ 64 ⌝ }
+    ensures { λ r. ⌜ r ≡ 2 ^ n - 1 ⌝ }
 {
-    let n = card.n;
-    let ones = card.ones;
-    let twos = card.twos;
-    let mut sum: i64 = 0;
-    let mut k = 0;
-    while k < n {
-        sum += sign_by(
-            product,
-            Places {
-                ones: ones[k],
-                twos: twos[k],
-            },
-        );
-        k += 1;
+    if n < MOST_POINTS {
+        return (1 << n) - 1;
     }
-    sum
+    EVERY
+}
+
+// The points left where a product is not 0, with one factor more: a polynomial to the power d, by the points where it is positive or negative.
+fn left_by(d: u16, left: u64, positive: u64, negative: u64) -> u64
+    ensures { λ r. ⌜ r ≡ cond (eqb d 0) left (bitAnd left (bitOr positive negative)) ⌝ }
+{
+    if d == 0 {
+        return left;
+    }
+    left & (positive | negative)
+}
+
+// The points where an odd number of factors is negative, with that factor more.
+fn odd_by(d: u16, odd: u64, negative: u64) -> u64
+    ensures { λ r. ⌜ r ≡ cond (eqb d 1) (bitXor odd negative) odd ⌝ }
+{
+    if d == 1 {
+        return odd ^ negative;
+    }
+    odd
+}
+
+// The sum of the signs at the points left: − at the odd points among them, + at the others.
+fn balance(left: u64, odd: u64) -> i64
+    ensures { λ r. ⌜ r ≡ pos (ones left) -ℤ pos (2 * ones (bitAnd left odd)) ⌝ }
+{
+    u64::count_ones(left) as i64 - (2 * u64::count_ones(left & odd)) as i64
+}
+
+// The sum of the signs of the product a over the points of an opened card: all points at once, polynomial by polynomial, the last one first.
+fn sum(card: Opened, a: u16) -> i64
+    requires { ⌜ (card .s ≤ 8) × (card .n ≤ 64) × (a < 3 ^ card .s) ⌝ }
+    ensures { λ r. ⌜ r ≡ summed card a ⌝ }
+{
+    let mut left = first(card.n);
+    let mut odd: u64 = 0;
+    let mut rest = a;
+    let mut j = card.s;
+    while 0 < j {
+        j -= 1;
+        let w = power(j);
+        let d = digit(rest, w);
+        left = left_by(d, left, card.positive[j], card.negative[j]);
+        odd = odd_by(d, odd, card.negative[j]);
+        rest -= d * w;
+    }
+    balance(left, odd)
 }
 
 // The query of a product on an opened card. The card's own number comes first, then 13 for a product number above 3^s − 1. An opened card that `open`
@@ -169,7 +203,7 @@ pub fn ask(card: Opened, a: Product) -> Answer
     if power(card.s) <= a.0 {
         return Answer::Refused(PRODUCT);
     }
-    Answer::Number(sum(card, digits_of(a.0, card.s)))
+    Answer::Number(sum(card, a.0))
 }
 
 // The query of a product on a card, in one call: the number that refuses the card, then 13 for a product number above 3^s − 1, else the query.

@@ -1,12 +1,11 @@
 -- `query::ask` meets its contract. Assumes nothing.
-use mathlib.Core.Path.{_≡_, ap, ap₂, _∙_}
+use mathlib.Core.Path.{_≡_, ap, _∙_}
 use mathlib.Core.Bool.{false}
-use Prim.Native.Nat.{ℕ}
 use native.Mathlib.Omega.{arith}
 use borrow.Author.Needs.{needs, sfits-of}
 use mir.Facts.{toZ-ofZ}
 use Rattle.query.specs.declared.Answer.the-variants as Answer
-use Rattle.query.specs.Opened.{summed, unlimited}
+use Rattle.query.specs.Opened.{unlimited}
 use Rattle.query.proofs.Opening.{answer-foreign, answer-own, answer-limits, answer-product, answer-number, few, many, crowded, limits}
 use Rattle.query.proofs.ask.Statement.{statement}
 use Rattle.query.proofs.ask.Tie as tie
@@ -47,20 +46,14 @@ within c =
 returns-6 : tie.Need-returns-6
 returns-6 c = let w = within (c .before .before .before) in answer-product _ _ (w .0) (w .1) (omega arith)
 
-digits-of-requires : tie.Need-digits-of-requires
-digits-of-requires c κs = search needs
-
 sum-requires : tie.Need-sum-requires
 sum-requires c κs = search needs
 
 returns-7 : tie.Need-returns-7
 returns-7 c =
-    let s = c .before .before .before .before .before .before .before .before .before .before .before .before .before .before .before in
-    let o = s .args .card in
-    let d = c .before .digits-of .ensures in
-    let w = within (c .before .before .before .before .before) in
-    ap Answer.Number (toZ-ofZ (sfits-of (c .sum .ok)) ∙ c .sum .ensures ∙ ap₂ (λ (x y : ℕ). summed (o .ones) (o .twos) x y (o .n)) (d .0) (d .1))
-    ∙ answer-number o (s .args .a .0) (w .0) (w .1) (omega arith)
+    let s = c .before .before .before .before .before .before .before .before .before .before .before .before .before .before in
+    let w = within (c .before .before .before .before) in
+    ap Answer.Number (toZ-ofZ (sfits-of (c .sum .ok)) ∙ c .sum .ensures) ∙ answer-number (s .args .card) (s .args .a .0) (w .0) (w .1) (omega arith)
 
 pub ask-spec : {M : Type 1} → statement M
-ask-spec = tie.close (tie.spec returns returns-2 returns-3 returns-4 returns-5 power-requires returns-6 digits-of-requires sum-requires returns-7)
+ask-spec = tie.close (tie.spec returns returns-2 returns-3 returns-4 returns-5 power-requires returns-6 sum-requires returns-7)

@@ -1,47 +1,58 @@
--- `query::evaluate` meets its contract: j polynomials have their digits. Assumes nothing.
-use mathlib.Core.Path.{_≡_, sym, ap, _∙_}
-use Prim.Native.Nat.{_-_, _≤_}
+-- `query::evaluate` meets its contract: j polynomials have their words. Assumes nothing.
+use mathlib.Core.Path.{_≡_, ap, _∙_}
+use Prim.Native.Nat.{_-_, _≤_, _<_}
 use native.Mathlib.Omega.{arith}
 use borrow.Author.Needs.{needs}
 use Rattle.layout.specs.Format.{offset}
 use Rattle.card.proofs.Places.{offset-place}
-use Rattle.query.specs.Opened.{Marks}
-use Rattle.query.proofs.Opening.{marks-none, evaluated-is}
+use Rattle.query.proofs.Opening.{Filled, filled-none, filled-next, evaluated-is}
 use Rattle.query.proofs.evaluate.Statement.{statement}
 use Rattle.query.proofs.evaluate.Tie as tie
 
 abbrev Inv-loop : tie.InvT-loop
-Inv-loop card s n from ones₀ twos₀ j₀ ones twos j = (j ≤ s) × Marks card 1 j ones × Marks card 2 j twos
+Inv-loop card s n from positive₀ negative₀ j₀ positive negative j = (j ≤ s) × Filled card 1 j positive × Filled card 2 j negative
 
 abbrev μ-loop : tie.MeasureT-loop
-μ-loop card s n from ones₀ twos₀ j₀ ones twos j = s - j
+μ-loop card s n from positive₀ negative₀ j₀ positive negative j = s - j
 
 offset-requires : tie.Need-offset-requires Inv-loop μ-loop
 offset-requires c κs = offset-place _ (c .before .pre .0) (c .before .args .s) (omega arith)
 
 loop-holds : tie.Need-loop-holds Inv-loop μ-loop
-loop-holds c = (omega arith, marks-none _ 1, marks-none _ 2)
-
-slice-aggregate-mark : tie.Need-slice-aggregate-mark Inv-loop μ-loop
-slice-aggregate-mark c = sym (c .before .before .loop .inv .1 .long)
-
-slice-aggregate-mark-2 : tie.Need-slice-aggregate-mark-2 Inv-loop μ-loop
-slice-aggregate-mark-2 c = sym (c .before .before .before .loop .inv .2 .long)
+loop-holds c = (omega arith, filled-none _ 1, filled-none _ 2)
 
 mark-requires : tie.Need-mark-requires Inv-loop μ-loop
 mark-requires c κs =
-    let s = c .before .before .before .before .before .before in
-    let l = c .before .before .before .loop in
-    ((s .pre .0, omega arith, c .before .before .before .before .offset .ensures ∙ ap (offset (s .args .card .now)) (s .pre .1), s .pre .2), (l .inv .1, l .inv .2))
+    let s = c .before .before .before .before in
+    (s .pre .0, omega arith, c .before .before .offset .ensures ∙ ap (offset (s .args .card .now)) (s .pre .1), s .pre .2)
+
+-- the polynomial is one of eight
+eight : (c : tie.After-mark Inv-loop μ-loop) → c .before .before .loop .j < 8
+eight c = omega (arith, c .before .before .before .before .before .pre .0 .s-most)
+
+mul-positive : tie.Need-mul-positive Inv-loop μ-loop
+mul-positive c = let e = eight c in search needs
+
+array-write-positive : tie.Need-array-write-positive Inv-loop μ-loop
+array-write-positive c = let e = eight c in search needs
+
+mul-negative : tie.Need-mul-negative Inv-loop μ-loop
+mul-negative c = let e = eight c in search needs
+
+array-write-negative : tie.Need-array-write-negative Inv-loop μ-loop
+array-write-negative c = let e = eight c in search needs
 
 add-j : tie.Need-add-j Inv-loop μ-loop
-add-j c = search needs
+add-j c = let e = eight c in search needs
 
 loop-less : tie.Need-loop-less Inv-loop μ-loop
 loop-less c = search needs
 
 loop-again : tie.Need-loop-again Inv-loop μ-loop
-loop-again c = (omega arith, c .before .before .mark .ensures .0, c .before .before .mark .ensures .1)
+loop-again c =
+    let l = c .before .before .loop in
+    let m = c .mark .ensures in
+    (omega arith, filled-next _ 1 (l .j) _ _ (l .inv .1) (eight c) (m .0), filled-next _ 2 (l .j) _ _ (l .inv .2) (eight c) (m .1))
 
 returns : tie.Need-returns Inv-loop μ-loop
 returns c =
@@ -58,9 +69,11 @@ evaluate-spec =
     μ-loop
     offset-requires
     loop-holds
-    slice-aggregate-mark
-    slice-aggregate-mark-2
     mark-requires
+    mul-positive
+    array-write-positive
+    mul-negative
+    array-write-negative
     add-j
     loop-less
     loop-again

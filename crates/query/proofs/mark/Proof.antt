@@ -1,180 +1,134 @@
--- `query::mark` meets its contract: k points have their digit of polynomial j. Assumes nothing.
-use mathlib.Core.Path.{_≡_, refl}
+-- `query::mark` meets its contract: the points from k on have their bits, and those below are to come. Assumes nothing.
+use mathlib.Core.Path.{_≡_, ap, _∙_}
 use mathlib.Core.List.{List}
 use Prim.Native.Nat.{ℕ, _+_, _*_, _-_, _^_, _≤_, _<_}
 use native.Mathlib.Omega.{arith}
 use borrow.Author.Needs.{needs, sfits-of}
 use lib.IntN.{ℤ, natAbs}
-use lib.ListN.{getD, set}
 use mir.Syntax.{w64}
 use mir.Val.{SFits, toZ, ofZ}
 use mir.Facts.{toZ-ofZ}
 use Rattle.signs.specs.Bits.{bitOf}
-use Rattle.layout.specs.Format.{points, offset, points-at, point}
-use Rattle.layout.specs.Values.{value, value-of, sign-digit}
+use Rattle.signs.proofs.Digitwise.{bit-le}
+use Rattle.layout.specs.Format.{polynomials, points, offset, points-at, point}
+use Rattle.layout.specs.Values.{value-of, evaluate, polynomial, sign-digit}
 use Rattle.card.specs.Sound.{Sound}
-use Rattle.card.proofs.Places.{offset-place, point-place, point-within}
-use Rattle.query.proofs.Marking.{Marking, marking-none, marking-next, marking-all, bit-small, store-small}
+use Rattle.card.proofs.Places.{offset-place, body-place, body-within, point-place, point-within, point-value}
+use Rattle.query.specs.Opened.{wordOf, signBit, signWord}
+use Rattle.query.proofs.Words.{word-none, word-turn, word-room, word-all}
 use Rattle.query.proofs.mark.Statement.{statement}
 use Rattle.query.proofs.mark.Tie as tie
 
 abbrev Inv-loop : tie.InvT-loop
-Inv-loop card j from n ones₀ twos₀ at w k₀ ones twos k = (k ≤ n) × Marking card 1 j k ones × Marking card 2 j k twos
+Inv-loop card j from n p positive₀ negative₀ k₀ positive negative k =
+    (k ≤ n) × (positive * 2 ^ k + wordOf (signBit card 1 j) k ≡ signWord card 1 j) × (negative * 2 ^ k + wordOf (signBit card 2 j) k ≡ signWord card 2 j)
 
 abbrev μ-loop : tie.MeasureT-loop
-μ-loop card j from n ones₀ twos₀ at w k₀ ones twos k = n - k
+μ-loop card j from n p positive₀ negative₀ k₀ positive negative k = k
 
--- ---- what a turn knows: the point, its place and its digit
+bit-small : (c : List ℕ) (d j k : ℕ) → signBit c d j k < 2
+bit-small c d j k = omega (arith, bit-le (sign-digit (value-of c j k)) d)
 
-module _ (c : List ℕ) (sound : Sound c) (j from n at k : ℕ) (x : ℤ) (h : k < n) (en : n ≡ points c) (ef : from ≡ points-at c)
-    (ea : at ≡ offset c j) (ex : x ≡ point c from k) (f : SFits w64 x) where
+-- ---- what a turn knows: its point, and the digit of the sign there
+
+module _ (c : List ℕ) (sound : Sound c) (j from k : ℕ) (x : ℤ) (h : k < points c) (ef : from ≡ points-at c) (ex : x ≡ point c from k) (f : SFits w64 x) where
   within : natAbs (toZ w64 (ofZ w64 x)) ≤ 128
-  within = rw (toZ-ofZ f, ex, ef) (point-within c sound k (omega arith))
+  within = rw (toZ-ofZ f, ex, ef) (point-within c sound k h)
 
-  digit-is : (d : ℕ) → d ≡ sign-digit (value c at (toZ w64 (ofZ w64 x))) → d ≡ sign-digit (value-of c j k)
-  digit-is d e = rw (toZ-ofZ f, ex, ef, ea) at e
-
--- the digit's bit in a list on its way
-next : (c : List ℕ) (t s k : ℕ) (l : List ℕ) (d b w : ℕ) → Marking c t s k l → k < points c → k < 64 → d ≡ sign-digit (value-of c s k)
-    → b ≡ bitOf d t → w ≡ 2 ^ s → Marking c t s (k + 1) (set l k (getD l k 0 + b * w))
-next c t s k l d b w m h g ed eb ew = marking-next c t s l k (getD l k 0 + b * w) m h g (rw (eb, ed, ew) refl)
+  digit-is : (p : List ℤ) (at d : ℕ) → j < polynomials c → p ≡ polynomial c at → at ≡ offset c j → d ≡ sign-digit (evaluate p (toZ w64 (ofZ w64 x)))
+      → d ≡ sign-digit (value-of c j k)
+  digit-is p at d b ep ea e = (rw (toZ-ofZ f, ex, ef, ep, ea) at e) ∙ ap sign-digit (point-value c sound j k b)
 
 offset-requires : tie.Need-offset-requires Inv-loop μ-loop
-offset-requires c κs =
-    let s = c .before .before .before in
-    offset-place _ (s .pre .0 .0) (s .args .j) (omega arith)
+offset-requires c κs = let s = c .before in offset-place _ (s .pre .0) (s .args .j) (omega arith)
 
-weight-requires : tie.Need-weight-requires Inv-loop μ-loop
-weight-requires c κs = let s = c .before .before .before .before in omega (arith, s .pre .0 .0 .s-most)
+polynomial-requires : tie.Need-polynomial-requires Inv-loop μ-loop
+polynomial-requires c κs = let s = c .before .before in rw (c .offset .ensures) (body-place _ (s .pre .0) (s .args .j) (s .pre .1))
 
 loop-holds : tie.Need-loop-holds Inv-loop μ-loop
 loop-holds c =
-    let s = c .before .before .before .before .before in
-    (omega arith, marking-none _ 1 _ _ (s .pre .1 .0), marking-none _ 2 _ _ (s .pre .1 .1))
+    let s = c .before .before .before in
+    (omega arith, word-none _ (bit-small _ 1 _) _ _ (s .pre .3), word-none _ (bit-small _ 2 _) _ _ (s .pre .3))
+
+sub-k : tie.Need-sub-k Inv-loop μ-loop
+sub-k c = search needs
 
 point-requires : tie.Need-point-requires Inv-loop μ-loop
 point-requires c κs =
-    let s = c .before .before .before .before .before .before .before in
-    omega (arith, point-place _ (s .pre .0 .0) (c .before .loop .k) (omega arith))
+    let s = c .before .before .before .before .before .before in
+    omega (arith, point-place _ (s .pre .0) (c .before .before .loop .k - 1) (omega arith))
 
-sign-at-requires : tie.Need-sign-at-requires Inv-loop μ-loop
-sign-at-requires c κs =
-    let s = c .before .before .before .before .before .before .before .before in
-    let p = s .pre .0 in
-    let a = c .before .before .before .before .offset .ensures in (
-      rw a (p .0 .body (s .args .j) (p .1) .small),
-      within _ (p .0) _ _ _ _ _ _ (c .before .loop-test .taken) (p .3) (p .2) a (c .point .ensures) (sfits-of (c .point .ok)),
+sign-requires : tie.Need-sign-requires Inv-loop μ-loop
+sign-requires c κs =
+    let s = c .before .before .before .before .before .before .before in
+    let p = c .before .before .before .before in (
+      rw (p .polynomial .ensures, p .before .offset .ensures) (body-within _ (s .pre .0) (s .args .j) (s .pre .1)),
+      within _ (s .pre .0) (s .args .j) _ (c .before .before .before .loop .k - 1) _ (omega arith) (s .pre .2) (c .point .ensures) (sfits-of (c .point .ok)),
     )
 
-record Turn (c : List ℕ) (j k d : ℕ) : Type 0 where
-  pub few : k < 64
-  pub below : k < points c
-  pub eight : j < 8
-  pub digit : d ≡ sign-digit (value-of c j k)
+-- the digit of the sign at the turn's point, and room for its bit
+record Turn (c : List ℕ) (j k d positive negative : ℕ) : Type 0 where
+  pub digit : d ≡ sign-digit (value-of c j (k - 1))
+  pub room : (2 * positive + 1 < 2 ^ 64) × (2 * negative + 1 < 2 ^ 64)
 
-turn : (c : tie.After-sign-at Inv-loop μ-loop) →
-    let s = c .before .before .before .before .before .before .before .before .before in
-    Turn (s .args .card .now) (s .args .j) (c .before .before .before .loop .k) (c .sign-at .result)
+turn : (c : tie.After-sign Inv-loop μ-loop) →
+    let s = c .before .before .before .before .before .before .before .before in
+    let l = c .before .before .before .before .loop in
+    Turn (s .args .card .now) (s .args .j) (l .k) (c .sign .result) (l .positive) (l .negative)
 turn c =
-    let s = c .before .before .before .before .before .before .before .before .before in
-    let p = s .pre .0 in
-    let a = c .before .before .before .before .before .offset .ensures in
+    let s = c .before .before .before .before .before .before .before .before in
+    let l = c .before .before .before .before .loop in
+    let p = c .before .before .before .before .before in
     let x = c .before .point in
+    let h : 0 < l .k = omega arith in
+    let n = s .pre .0 .n-most in
     record {
-      few = omega (arith, p .0 .n-most);
-      below = omega arith;
-      eight = omega (arith, p .0 .s-most);
-      digit = digit-is _ (p .0) _ _ _ _ _ _ (c .before .before .loop-test .taken) (p .3) (p .2) a (x .ensures) (sfits-of (x .ok)) _ (c .sign-at .ensures);
+      digit = digit-is _ (s .pre .0) (s .args .j) _ (l .k - 1) _ (omega arith) (s .pre .2) (x .ensures) (sfits-of (x .ok)) _ _ _ (s .pre .1) (p .polynomial .ensures) (p .before .offset .ensures) (c .sign .ensures);
+      room = (word-room _ (bit-small _ 1 _) _ _ _ h (l .inv .1) n, word-room _ (bit-small _ 2 _) _ _ _ h (l .inv .2) n);
     }
 
-mul-ones : tie.Need-mul-ones Inv-loop μ-loop
-mul-ones c = let t = turn c in search needs
-
-slice-read-ones : tie.Need-slice-read-ones Inv-loop μ-loop
-slice-read-ones c = let t = turn (c .before) in search needs
+mul-positive : tie.Need-mul-positive Inv-loop μ-loop
+mul-positive c = let t = turn c in search needs
 
 bit-requires : tie.Need-bit-requires Inv-loop μ-loop
-bit-requires c κs = search needs
+bit-requires c κs = tt
 
-cast-ones : tie.Need-cast-ones Inv-loop μ-loop
-cast-ones c = search needs
+cast-positive : tie.Need-cast-positive Inv-loop μ-loop
+cast-positive c = search needs
 
-mul-ones-2 : tie.Need-mul-ones-2 Inv-loop μ-loop
-mul-ones-2 c =
-    let t = turn (c .before .before) in
-    let b = bit-small _ _ _ (t .eight) (c .bit .ensures .1) (c .before .before .before .before .before .before .weight .ensures) in
-    search needs
+add-positive : tie.Need-add-positive Inv-loop μ-loop
+add-positive c = let t = turn (c .before) in search needs
 
-add-ones : tie.Need-add-ones Inv-loop μ-loop
-add-ones c =
-    let t = turn (c .before .before) in
-    let l = c .before .before .before .before .before in
-    let b = store-small _ 1 _ _ _ _ _ (l .loop .inv .1) (t .below) (t .eight) (c .bit .ensures .1) (l .before .weight .ensures) in
-    search needs
-
-mul-ones-3 : tie.Need-mul-ones-3 Inv-loop μ-loop
-mul-ones-3 c = let t = turn (c .before .before) in search needs
-
-slice-write-ones : tie.Need-slice-write-ones Inv-loop μ-loop
-slice-write-ones c = let t = turn (c .before .before) in search needs
-
-mul-twos : tie.Need-mul-twos Inv-loop μ-loop
-mul-twos c = let t = turn (c .before .before) in search needs
-
-slice-read-twos : tie.Need-slice-read-twos Inv-loop μ-loop
-slice-read-twos c = let t = turn (c .before .before .before) in search needs
+mul-negative : tie.Need-mul-negative Inv-loop μ-loop
+mul-negative c = let t = turn (c .before) in search needs
 
 bit-requires-2 : tie.Need-bit-requires-2 Inv-loop μ-loop
-bit-requires-2 c κs = search needs
+bit-requires-2 c κs = tt
 
-cast-twos : tie.Need-cast-twos Inv-loop μ-loop
-cast-twos c = search needs
+cast-negative : tie.Need-cast-negative Inv-loop μ-loop
+cast-negative c = search needs
 
-mul-twos-2 : tie.Need-mul-twos-2 Inv-loop μ-loop
-mul-twos-2 c =
-    let t = turn (c .before .before .before .before) in
-    let b = bit-small _ _ _ (t .eight) (c .bit2 .ensures .1) (c .before .before .before .before .before .before .before .before .weight .ensures) in
-    search needs
-
-add-twos : tie.Need-add-twos Inv-loop μ-loop
-add-twos c =
-    let t = turn (c .before .before .before .before) in
-    let l = c .before .before .before .before .before .before .before in
-    let b = store-small _ 2 _ _ _ _ _ (l .loop .inv .2) (t .below) (t .eight) (c .bit2 .ensures .1) (l .before .weight .ensures) in
-    search needs
-
-mul-twos-3 : tie.Need-mul-twos-3 Inv-loop μ-loop
-mul-twos-3 c = let t = turn (c .before .before .before .before) in search needs
-
-slice-write-twos : tie.Need-slice-write-twos Inv-loop μ-loop
-slice-write-twos c = let t = turn (c .before .before .before .before) in search needs
-
-add-k : tie.Need-add-k Inv-loop μ-loop
-add-k c = let t = turn (c .before .before .before .before) in search needs
+add-negative : tie.Need-add-negative Inv-loop μ-loop
+add-negative c = let t = turn (c .before .before) in search needs
 
 loop-less : tie.Need-loop-less Inv-loop μ-loop
 loop-less c = search needs
 
 loop-again : tie.Need-loop-again Inv-loop μ-loop
 loop-again c =
-    let t = turn (c .before .before .before .before) in
-    let l = c .before .before .before .before .before .before .before in
-    let w = l .before .weight .ensures in (
-      search needs,
-      next _ 1 _ _ _ _ _ _ (l .loop .inv .1) (t .below) (t .few) (t .digit) (c .before .before .bit .ensures .0) w,
-      next _ 2 _ _ _ _ _ _ (l .loop .inv .2) (t .below) (t .few) (t .digit) (c .bit2 .ensures .0) w,
+    let t = turn (c .before .before) in
+    let l = c .before .before .before .before .before .before .loop in
+    let h : 0 < l .k = omega arith in (
+      omega arith,
+      word-turn _ (bit-small _ 1 _) _ (l .k) (l .positive) _ h (c .before .bit .ensures .0 ∙ ap (λ (x : ℕ). bitOf x 1) (t .digit)) (l .inv .1),
+      word-turn _ (bit-small _ 2 _) _ (l .k) (l .negative) _ h (c .bit2 .ensures .0 ∙ ap (λ (x : ℕ). bitOf x 2) (t .digit)) (l .inv .2),
     )
-
-same-length : tie.Need-same-length Inv-loop μ-loop
-same-length c = search needs
-
-same-length-2 : tie.Need-same-length-2 Inv-loop μ-loop
-same-length-2 c = search needs
 
 returns : tie.Need-returns Inv-loop μ-loop
 returns c =
-    let i = c .before .loop .inv in
-    (marking-all _ 1 _ _ _ (i .1) (omega arith), marking-all _ 2 _ _ _ (i .2) (omega arith))
+    let l = c .before .loop in
+    let e : l .k ≡ 0 = omega arith in
+    (word-all _ (bit-small _ 1 _) _ _ _ e (l .inv .1), word-all _ (bit-small _ 2 _) _ _ _ e (l .inv .2))
 
 pub mark-spec : {M : Type 1} → statement M
 mark-spec =
@@ -183,29 +137,19 @@ mark-spec =
     Inv-loop
     μ-loop
     offset-requires
-    weight-requires
+    polynomial-requires
     loop-holds
+    sub-k
     point-requires
-    sign-at-requires
-    mul-ones
-    slice-read-ones
+    sign-requires
+    mul-positive
     bit-requires
-    cast-ones
-    mul-ones-2
-    add-ones
-    mul-ones-3
-    slice-write-ones
-    mul-twos
-    slice-read-twos
+    cast-positive
+    add-positive
+    mul-negative
     bit-requires-2
-    cast-twos
-    mul-twos-2
-    add-twos
-    mul-twos-3
-    slice-write-twos
-    add-k
+    cast-negative
+    add-negative
     loop-less
     loop-again
-    same-length
-    same-length-2
     returns)

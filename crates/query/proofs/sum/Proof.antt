@@ -1,74 +1,104 @@
--- `query::sum` meets its contract: the sum is that over the points passed. Assumes nothing.
-use mathlib.Core.Path.{_≡_, sym, ap₂, _∙_}
-use Prim.Native.Nat.{_+_, _-_, _≤_}
+-- `query::sum` meets its contract: the digits passed are in the two words, those left below. Assumes nothing.
+use mathlib.Core.Path.{_≡_, _∙_}
+use Prim.Native.Nat.{ℕ, suc, _-_, _+_, _*_, _%_, _^_, _≤_, _<_}
 use native.Mathlib.Omega.{arith}
-use borrow.Author.Needs.{needs}
-use lib.IntN.{_+ℤ_}
-use mir.Syntax.{w64}
-use mir.Val.{SFits, toZ, ofZ}
+use native.Mathlib.Nat.{one-le-pow, pow-suc, pow-le-pow-right, div-add-mod', mod-lt}
+use borrow.Author.Needs.{needs, sfits-of}
 use mir.Facts.{toZ-ofZ}
-use Rattle.integers.proofs.I64.{fits-abs}
-use Rattle.query.specs.Opened.{summed}
-use Rattle.query.proofs.Summing.{summed-none, summed-next, summed-abs}
+use Rattle.query.proofs.Counting.{Kept, kept-none, kept-off, summed-words}
 use Rattle.query.proofs.sum.Statement.{statement}
 use Rattle.query.proofs.sum.Tie as tie
 
 abbrev Inv-loop : tie.InvT-loop
-Inv-loop product n ones twos sum₀ k₀ sum k = (k ≤ n) × (n ≤ 64) × (toZ w64 sum ≡ summed ones twos (product .ones) (product .twos) k)
+Inv-loop a card left₀ odd₀ rest₀ j₀ left odd rest j = (j ≤ card .s) × (rest < 3 ^ j) × Kept card a rest j left odd
 
 abbrev μ-loop : tie.MeasureT-loop
-μ-loop product n ones twos sum₀ k₀ sum k = n - k
+μ-loop a card left₀ odd₀ rest₀ j₀ left odd rest j = j
 
--- the next sum, which fits since it is no more than the number of points passed
-next : (c : tie.After-sign-by Inv-loop μ-loop) →
-    let l = c .before .before in
-    let o = l .before .before .before .args .card in
-    let a = l .before .before .before .args .product in
-    (toZ w64 (l .loop .sum) +ℤ toZ w64 (ofZ w64 (c .sign-by .result)) ≡ summed (o .ones) (o .twos) (a .ones) (a .twos) (l .loop .k + 1))
-    × SFits w64 (summed (o .ones) (o .twos) (a .ones) (a .twos) (l .loop .k + 1))
-next c =
-    let l = c .before .before .loop in
-    let o = c .before .before .before .before .before .args .card in
-    let a = c .before .before .before .before .before .args .product in (
-      ap₂ _+ℤ_ (l .inv .2) (toZ-ofZ {w = w64} (record { sfits = c .sign-by .ok }) ∙ c .sign-by .ensures)
-          ∙ sym (summed-next (o .ones) (o .twos) (a .ones) (a .twos) (l .k)),
-      fits-abs _ (omega (arith, summed-abs (o .ones) (o .twos) (a .ones) (a .twos) (l .k + 1))),
-    )
+-- the polynomial is one of eight
+eight : (c : tie.In-loop Inv-loop μ-loop) → c .before .loop .j - 1 < 8
+eight c = omega (arith, c .before .before .before .pre .0, c .before .loop .inv .0)
+
+-- what is left is below three times the next weight
+three-times : (c : tie.In-loop Inv-loop μ-loop) → c .before .loop .rest < 3 * 3 ^ (c .before .loop .j - 1)
+three-times c =
+    let l = c .before .loop in
+    let e : l .j ≡ suc (l .j - 1) = omega arith in
+    let h : l .rest < 3 ^ suc (l .j - 1) = rw (← e) (l .inv .1) in
+    omega (arith, pow-suc 3 (l .j - 1))
+
+-- the digit's share, and what stays
+taken-off : (c : tie.After-odd-by Inv-loop μ-loop) → c .before .before .before .before .before .digit .result * c .before .before .before .before .before .before .power .result
+    + c .before .before .before .before .before .before .before .before .loop .rest % 3 ^ (c .before .before .before .before .before .before .before .before .loop .j - 1) ≡ c .before .before .before .before .before .before .before .before .loop .rest
+taken-off c = rw (c .before .before .before .before .before .digit .ensures, c .before .before .before .before .before .before .power .ensures) (div-add-mod' (c .before .before .before .before .before .before .before .before .loop .rest) (3 ^ (c .before .before .before .before .before .before .before .before .loop .j - 1)))
+
+first-requires : tie.Need-first-requires Inv-loop μ-loop
+first-requires c κs = search needs
 
 loop-holds : tie.Need-loop-holds Inv-loop μ-loop
-loop-holds c = (omega arith, c .before .before .pre, sym (summed-none _ _ _ _))
+loop-holds c = (omega arith, c .before .pre .2, rw (c .first .ensures) (kept-none (c .before .args .t1) (c .before .args .a)))
 
-mul-t10 : tie.Need-mul-t10 Inv-loop μ-loop
-mul-t10 c = search needs
+sub-j : tie.Need-sub-j Inv-loop μ-loop
+sub-j c = search needs
 
-array-read-t13 : tie.Need-array-read-t13 Inv-loop μ-loop
-array-read-t13 c = search needs
+power-requires : tie.Need-power-requires Inv-loop μ-loop
+power-requires c κs = omega (arith, eight c)
 
-mul-t14 : tie.Need-mul-t14 Inv-loop μ-loop
-mul-t14 c = search needs
+digit-requires : tie.Need-digit-requires Inv-loop μ-loop
+digit-requires c κs = omega (arith, c .power .ensures, three-times (c .before))
 
-array-read-t17 : tie.Need-array-read-t17 Inv-loop μ-loop
-array-read-t17 c = search needs
+mul-left-by : tie.Need-mul-left-by Inv-loop μ-loop
+mul-left-by c = let b = eight (c .before .before) in search needs
 
-sign-by-requires : tie.Need-sign-by-requires Inv-loop μ-loop
-sign-by-requires c κs = tt
+element-copy-out-left-by : tie.Need-element-copy-out-left-by Inv-loop μ-loop
+element-copy-out-left-by c = let b = eight (c .before .before) in search needs
 
-add-sum : tie.Need-add-sum Inv-loop μ-loop
-add-sum c = rw (next c .0) (next c .1)
+mul-left-by-2 : tie.Need-mul-left-by-2 Inv-loop μ-loop
+mul-left-by-2 c = let b = eight (c .before .before .before) in search needs
 
-add-k : tie.Need-add-k Inv-loop μ-loop
-add-k c = search needs
+element-copy-out-left-by-2 : tie.Need-element-copy-out-left-by-2 Inv-loop μ-loop
+element-copy-out-left-by-2 c = let b = eight (c .before .before .before) in search needs
+
+left-by-requires : tie.Need-left-by-requires Inv-loop μ-loop
+left-by-requires c κs = tt
+
+mul-odd-by : tie.Need-mul-odd-by Inv-loop μ-loop
+mul-odd-by c = let b = eight (c .before .before .before .before .before) in search needs
+
+element-copy-out-odd-by : tie.Need-element-copy-out-odd-by Inv-loop μ-loop
+element-copy-out-odd-by c = let b = eight (c .before .before .before .before .before) in search needs
+
+odd-by-requires : tie.Need-odd-by-requires Inv-loop μ-loop
+odd-by-requires c κs = tt
+
+mul-rest : tie.Need-mul-rest Inv-loop μ-loop
+mul-rest c =
+    let l = c .before .before .before .before .before .before .before .before .loop in
+    omega (arith, taken-off c, pow-le-pow-right {n = 3} (omega arith) {i = l .j} {j = 8} (omega (arith, l .inv .0, c .before .before .before .before .before .before .before .before .before .before .pre .0)), l .inv .1)
+
+sub-rest : tie.Need-sub-rest Inv-loop μ-loop
+sub-rest c = omega (arith, taken-off c)
 
 loop-less : tie.Need-loop-less Inv-loop μ-loop
 loop-less c = search needs
 
 loop-again : tie.Need-loop-again Inv-loop μ-loop
 loop-again c =
-    let n = next c in
-    (search needs, c .before .before .loop .inv .1, rw (n .0) (toZ-ofZ (n .1)))
+    let s = c .before .before .before .before .before .before .before .before .before .before in
+    let l = c .before .before .before .before .before .before .before .before .loop in (
+      omega arith,
+      omega (arith, taken-off c, mod-lt (l .rest) {m = 3 ^ (l .j - 1)} (one-le-pow (l .j - 1) 3 (omega arith))),
+      kept-off (s .args .t1) (s .args .a) (l .j - 1) (l .j) (l .rest) _ _ (l .left) (l .odd) _ _ (omega arith) (l .inv .1) (c .before .before .before .before .before .before .power .ensures) (c .before .before .before .before .before .digit .ensures) (c .before .before .left-by .ensures) (c .odd-by .ensures) (l .inv .2),
+    )
+
+balance-requires : tie.Need-balance-requires Inv-loop μ-loop
+balance-requires c κs = tt
 
 returns : tie.Need-returns Inv-loop μ-loop
-returns c = let e : c .before .loop .k ≡ c .before .before .before .before .args .card .n = omega arith in (rw e at (c .before .loop .inv .2))
+returns c =
+    let s = c .before .before .before .before in
+    let l = c .before .before .loop in
+    toZ-ofZ (sfits-of (c .balance .ok)) ∙ c .balance .ensures ∙ summed-words (s .args .t1) (s .args .a) (l .rest) (l .j) (l .left) (l .odd) (l .inv .2) (omega arith)
 
 pub sum-spec : {M : Type 1} → statement M
 sum-spec =
@@ -76,14 +106,22 @@ sum-spec =
     (tie.spec
     Inv-loop
     μ-loop
+    first-requires
     loop-holds
-    mul-t10
-    array-read-t13
-    mul-t14
-    array-read-t17
-    sign-by-requires
-    add-sum
-    add-k
+    sub-j
+    power-requires
+    digit-requires
+    mul-left-by
+    element-copy-out-left-by
+    mul-left-by-2
+    element-copy-out-left-by-2
+    left-by-requires
+    mul-odd-by
+    element-copy-out-odd-by
+    odd-by-requires
+    mul-rest
+    sub-rest
     loop-less
     loop-again
+    balance-requires
     returns)
