@@ -1,0 +1,33 @@
+-- `tarski::row_at` meets its contract. Assumes nothing.
+use mathlib.Core.Path.{sym, ap, _∙_}
+use Rattle.determination.specs.Record.{fetchedOf}
+use Rattle.determination.specs.declared.Fetched.{Fetched}
+use Rattle.tarski.specs.declared.FlatRow.{FlatRow}
+use Rattle.tarski.specs.Flat.{rowOf}
+use borrow.Author.Needs.{needs}
+use Rattle.tarski.proofs.row_at.Statement.{statement}
+use Rattle.tarski.proofs.row_at.Tie as tie
+
+-- what the code's row shows
+shown : Fetched → FlatRow
+shown found = rowOf (fetchedOf found)
+
+fetch-row-requires : tie.Need-fetch-row-requires
+fetch-row-requires c κs = search needs
+
+enum-known-row : tie.Need-enum-known-row
+enum-known-row c = search needs
+
+enum-known-k : tie.Need-enum-known-k
+enum-known-k c = search needs
+
+returns : tie.Need-returns
+unfolding shown rowOf
+returns c = ap shown (sym (c .before .row .given .1)) ∙ ap rowOf (c .before .before .before .fetch-row .ensures)
+
+returns-2 : tie.Need-returns-2
+unfolding shown rowOf
+returns-2 c = ap shown (sym (c .before .k .given .1)) ∙ ap rowOf (c .before .before .before .fetch-row .ensures)
+
+pub row-at-spec : {M : Type 1} → statement M
+row-at-spec = tie.close (tie.spec fetch-row-requires enum-known-row enum-known-k returns returns-2)

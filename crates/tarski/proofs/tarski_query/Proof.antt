@@ -1,0 +1,18 @@
+-- `tarski::tarski_query` meets its contract. Assumes nothing.
+use mathlib.Core.Path.{sym, ap, _∙_}
+use Rattle.tarski.specs.Flat.{numberOf}
+use borrow.Author.Needs.{needs}
+use Rattle.tarski.proofs.tarski_query.Statement.{statement}
+use Rattle.tarski.proofs.tarski_query.Tie as tie
+
+query-requires : tie.Need-query-requires
+query-requires c κs = search needs
+
+flat-requires : tie.Need-flat-requires
+flat-requires c κs = search needs
+
+returns : tie.Need-returns
+returns c = c .flat .ensures ∙ ap numberOf (c .before .query .ensures)
+
+pub tarski-query-spec : {M : Type 1} → statement M
+tarski-query-spec = tie.close (tie.spec query-requires flat-requires returns)

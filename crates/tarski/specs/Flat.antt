@@ -1,0 +1,57 @@
+-- The answers of the calls as plain numbers, for C and Rust: a refusal number beside the result, 0 where nothing is refused. Assumes nothing: these are
+-- definitions.
+--
+--   cardOf a    == s and n of a sound card; no polynomials and no points where it is refused
+--   numberOf a  == a query, or 0 where it is refused
+--   refusalOf a == the number that refuses a solver's call, or 0
+--   toldOf a    == a step of a run: 0 with the product to ask, 1 done, 2 with the number that refuses
+--   turnOf t    == the record after a call on a run, and its step as plain numbers
+--   rowOf a     == a row fetched; 0 and 0 where it is refused
+--   copiedOf a  == how many rows were copied; none where it is refused
+--   leftOf c    == the same with the two slices as they are left
+use mathlib.Core.List.{List}
+use Prim.Native.Nat.{ℕ}
+use lib.IntN.{pos}
+use Rattle.card.specs.declared.Card.{Card}
+use Rattle.card.specs.declared.Card.the-variants as of-card
+use Rattle.query.specs.declared.Answer.{Answer}
+use Rattle.query.specs.declared.Answer.the-variants as of-query
+use Rattle.solver.specs.declared.Solved.{Solved}
+use Rattle.solver.specs.declared.Solved.the-variants as of-solver
+use Rattle.runs.specs.Run.{State, Step, ask, done, refused, Fetch, row, no-row, Copied, copied, not-copied, Copy}
+use Rattle.tarski.specs.declared.Checked.{Checked}
+use Rattle.tarski.specs.declared.Number.{Number}
+use Rattle.tarski.specs.declared.Told.{Told}
+use Rattle.tarski.specs.declared.FlatRow.{FlatRow}
+use Rattle.tarski.specs.declared.FlatCopied.{FlatCopied}
+
+unfoldable pub cardOf : Card → Checked
+cardOf (of-card.Sound s n) = record { polynomials = s; points = n; refusal = 0 }
+cardOf (of-card.Refused k) = record { polynomials = 0; points = 0; refusal = k }
+
+unfoldable pub numberOf : Answer → Number
+numberOf (of-query.Number z) = record { number = z; refusal = 0 }
+numberOf (of-query.Refused k) = record { number = pos 0; refusal = k }
+
+unfoldable pub refusalOf : Solved → ℕ
+refusalOf of-solver.Found = 0
+refusalOf (of-solver.Refused k) = k
+
+unfoldable pub toldOf : Step → Told
+toldOf (ask p) = record { kind = 0; value = p }
+toldOf done = record { kind = 1; value = 0 }
+toldOf (refused k) = record { kind = 2; value = k }
+
+abbrev pub turnOf : State × Step → State × Told
+turnOf t = (t .0, toldOf (t .1))
+
+unfoldable pub rowOf : Fetch → FlatRow
+rowOf (row r) = record { pattern = r .pattern; count = r .count; refusal = 0 }
+rowOf (no-row k) = record { pattern = 0; count = 0; refusal = k }
+
+unfoldable pub copiedOf : Copied → FlatCopied
+copiedOf (copied n) = record { rows = n; refusal = 0 }
+copiedOf (not-copied k) = record { rows = 0; refusal = k }
+
+abbrev pub leftOf : Copy → FlatCopied × List ℕ × List ℕ
+leftOf c = (copiedOf (c .result), c .patterns-left, c .counts-left)

@@ -1,0 +1,270 @@
+// The library for programs in C and Rust (include/tarski.h, include/tarski.rs): the proved calls on plain numbers, slices as pointer and length, and
+// records lent by reference. An enum's cases are numbers here: the definitions in specs/Flat.antt say which.
+ghost use mathlib.Core.Path.{_≡_};
+ghost use Rattle.card.specs.Answers.{reading};
+ghost use Rattle.query.specs.Query.{queryAnswer};
+ghost use Rattle.solver.specs.Solving.{solveOf};
+ghost use Rattle.query.specs.Opened.{opened, answer as askedOf};
+ghost use Rattle.rounds.specs.RoundEnd.{roundRows};
+ghost use Rattle.runs.specs.Run.{answerOf, fetchOf, copyOf, refused, late};
+ghost use Rattle.determination.specs.Record.{stateOf, stepOf, startedOf};
+ghost use Rattle.tarski.specs.Flat.{cardOf, numberOf, refusalOf, toldOf, turnOf, rowOf, leftOf};
+use card::Card;
+use determination::Copied;
+use determination::Fetched;
+use determination::Run;
+use determination::Step;
+use determination::answer;
+use determination::asked;
+use determination::copy_rows;
+use determination::fetch_row;
+use determination::start;
+use query::Answer;
+use query::Opened;
+use signs::Product;
+use solver::Solved;
+
+// What a card says of itself, or the number that refuses it.
+#[repr(C)]
+pub struct Checked {
+    pub polynomials: usize,
+    pub points: usize,
+    pub refusal: u16,
+}
+
+// A query, or the number that refuses it.
+#[repr(C)]
+pub struct Number {
+    pub number: i64,
+    pub refusal: u16,
+}
+
+// What a call on a run gives: 0 with the product to ask, 1 where it is done, 2 with the number that refuses.
+#[repr(C)]
+pub struct Told {
+    pub kind: u16,
+    pub value: u16,
+}
+
+// A row, or the number that refuses it.
+#[repr(C)]
+pub struct FlatRow {
+    pub pattern: u16,
+    pub count: u16,
+    pub refusal: u16,
+}
+
+// How many rows were copied, or the number that refuses.
+#[repr(C)]
+pub struct FlatCopied {
+    pub rows: usize,
+    pub refusal: u16,
+}
+
+// The record after a call, and what the call gives.
+struct Turn {
+    run: Run,
+    told: Told,
+}
+
+// ---- cards and queries
+
+// The number of polynomials and of points of a card.
+#[no_mangle]
+pub extern "C" fn tarski_check(card: &[u8]) -> Checked
+    ensures { λ r. ⌜ r ≡ cardOf (reading (now (card .entry))) ⌝ }
+{
+    match card::read(card) {
+        Card::Sound { s, n } => Checked {
+            polynomials: s,
+            points: n,
+            refusal: 0,
+        },
+        Card::Refused(k) => Checked {
+            polynomials: 0,
+            points: 0,
+            refusal: k as u16,
+        },
+    }
+}
+
+// A query's answer as plain numbers.
+fn flat(answer: Answer) -> Number
+    ensures { λ r. ⌜ r ≡ numberOf answer ⌝ }
+{
+    match answer {
+        Answer::Number(x) => Number {
+            number: x,
+            refusal: 0,
+        },
+        Answer::Refused(k) => Number {
+            number: 0,
+            refusal: k,
+        },
+    }
+}
+
+// The Tarski query of a product on a card.
+#[no_mangle]
+pub extern "C" fn tarski_query(card: &[u8], product: u16) -> Number
+    ensures { λ r. ⌜ r ≡ numberOf (queryAnswer (now (card .entry)) product) ⌝ }
+{
+    flat(query::query(card, Product(product)))
+}
+
+// Opens a card: checks it and works out the signs of its polynomials at its points, once.
+#[no_mangle]
+pub extern "C" fn tarski_open(card: &[u8]) -> Opened
+    ensures { λ r. ⌜ r ≡ opened (now (card .entry)) ⌝ }
+{
+    query::open(card)
+}
+
+// The query of a product on an opened card.
+fn number_on(card: Opened, product: u16) -> Number
+    ensures { λ r. ⌜ r ≡ numberOf (askedOf card product) ⌝ }
+{
+    flat(query::ask(card, Product(product)))
+}
+
+// The same on a lent one.
+#[no_mangle]
+pub extern "C" fn tarski_ask(card: &Opened, product: u16) -> Number
+    ensures { λ r. ⌜ r ≡ numberOf (askedOf (now (card .entry)) product) ⌝ }
+{
+    number_on(*card, product)
+}
+
+// ---- the solver
+
+// Writes to out the whole numbers on the patterns whose queries on the adapted list are the numbers. 0, or the refusal.
+#[no_mangle]
+pub extern "C" fn tarski_solve(s: usize, patterns: &[u16], numbers: &[i64], out: &mut [i64]) -> u16
+    ensures { λ r. ⌜ r ≡ refusalOf (solveOf s (now (patterns .entry)) (now (numbers .entry)) (now (out .entry)) .0) ⌝ }
+    ensures { λ _. ⌜ now (out .exit) ≡ solveOf s (now (patterns .entry)) (now (numbers .entry)) (now (out .entry)) .1 ⌝ }
+{
+    match solver::solve(s, patterns, numbers, out) {
+        Solved::Found => 0,
+        Solved::Refused(k) => k,
+    }
+}
+
+// ---- the run
+
+// A step as plain numbers.
+fn tell(step: Step) -> Told
+    ensures { λ r. ⌜ r ≡ toldOf (stepOf step) ⌝ }
+{
+    match step {
+        Step::Ask(p) => Told {
+            kind: 0,
+            value: p.0,
+        },
+        Step::Done => Told { kind: 1, value: 0 },
+        Step::Refused(k) => Told { kind: 2, value: k },
+    }
+}
+
+// The record of a new run for s polynomials, and what the start gives.
+fn started(s: usize) -> Turn
+    ensures { λ r. ⌜ (stateOf (r .run), r .told) ≡ turnOf (startedOf s) ⌝ }
+{
+    let first = start(s);
+    let run = first.run;
+    let step = first.step;
+    Turn {
+        run: run,
+        told: tell(step),
+    }
+}
+
+// The record after an answer, and what it gives.
+fn answered(run: Run, a: i64) -> Turn
+    ensures { λ r. ⌜ ((stateOf (r .run), r .told) ≡ turnOf (answerOf roundRows (stateOf run) a)) × (r .told ≡ toldOf (refused late) → r .run ≡ run) ⌝ }
+{
+    let next = answer(run, a);
+    let after = next.run;
+    let step = next.step;
+    Turn {
+        run: after,
+        told: tell(step),
+    }
+}
+
+// Starts a run for s polynomials in the lent record.
+#[no_mangle]
+pub extern "C" fn tarski_start(run: &mut Run, s: usize) -> Told
+    ensures { λ r. ⌜ (stateOf (now (run .exit)), r) ≡ turnOf (startedOf s) ⌝ }
+{
+    let turn = started(s);
+    *run = turn.run;
+    turn.told
+}
+
+// Gives the run in the lent record an answer. Where it comes too late, the record is as it was.
+#[no_mangle]
+pub extern "C" fn tarski_answer(run: &mut Run, a: i64) -> Told
+    ensures { λ r. ⌜ ((stateOf (now (run .exit)), r) ≡ turnOf (answerOf roundRows (stateOf (now (run .entry))) a)) × (r ≡ toldOf (refused late) → now (run .exit) ≡ now (run .entry)) ⌝ }
+{
+    let turn = answered(*run, a);
+    *run = turn.run;
+    turn.told
+}
+
+// How many questions the run in the lent record has asked.
+#[no_mangle]
+pub extern "C" fn tarski_asked(run: &Run) -> usize
+    ensures { λ r. ⌜ r ≡ stateOf (now (run .entry)) .total ⌝ }
+{
+    asked(*run)
+}
+
+// A row as plain numbers.
+fn row_at(run: Run, p: usize) -> FlatRow
+    ensures { λ r. ⌜ r ≡ rowOf (fetchOf (stateOf run) p) ⌝ }
+{
+    match fetch_row(run, p) {
+        Fetched::Row(row) => FlatRow {
+            pattern: row.pattern.0,
+            count: row.count,
+            refusal: 0,
+        },
+        Fetched::Refused(k) => FlatRow {
+            pattern: 0,
+            count: 0,
+            refusal: k,
+        },
+    }
+}
+
+// The row at position p of the run in the lent record.
+#[no_mangle]
+pub extern "C" fn tarski_row(run: &Run, p: usize) -> FlatRow
+    ensures { λ r. ⌜ r ≡ rowOf (fetchOf (stateOf (now (run .entry))) p) ⌝ }
+{
+    row_at(*run, p)
+}
+
+// Copies all rows of a run to the two slices.
+fn rows_to(run: Run, patterns: &mut [u16], counts: &mut [u16]) -> FlatCopied
+    ensures { λ r. ⌜ (r, now (patterns .exit), now (counts .exit)) ≡ leftOf (copyOf (stateOf run) (now (patterns .entry)) (now (counts .entry))) ⌝ }
+{
+    match copy_rows(run, patterns, counts) {
+        Copied::Rows(n) => FlatCopied {
+            rows: n,
+            refusal: 0,
+        },
+        Copied::Refused(k) => FlatCopied {
+            rows: 0,
+            refusal: k,
+        },
+    }
+}
+
+// The same of the run in the lent record.
+#[no_mangle]
+pub extern "C" fn tarski_rows(run: &Run, patterns: &mut [u16], counts: &mut [u16]) -> FlatCopied
+    ensures { λ r. ⌜ (r, now (patterns .exit), now (counts .exit)) ≡ leftOf (copyOf (stateOf (now (run .entry))) (now (patterns .entry)) (now (counts .entry))) ⌝ }
+{
+    rows_to(*run, patterns, counts)
+}
