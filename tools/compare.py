@@ -237,6 +237,8 @@ def fixed():
     for name in sorted(glob.glob(os.path.join(os.path.dirname(__file__), '..', 'examples', '*.card'))):
         with open(name, 'rb') as card:
             yield card.read()
+    longest = write([[k - 20 + j for k in range(7)] for j in range(8)], range(-32, 32))
+    yield from (longest, longest[:-1], longest + b'\x20', longest + b'\x20\x20')
     yield b''
     yield b'\1'
     yield b'\1' * 1_000_000
