@@ -6,6 +6,7 @@
 --   refusalOf a == the number that refuses a solver's call, or 0
 --   toldOf a    == a step of a run: 0 with the product to ask, 1 done, 2 with the number that refuses
 --   turnOf t    == the record after a call on a run, and its step as plain numbers
+--   keptOn r t  == the record and the step t of a start in the lent record r: refused, it is as it was (3: "all lent memory; no run begins")
 --   rowOf a     == a row fetched; 0 and 0 where it is refused
 --   copiedOf a  == how many rows were copied; none where it is refused
 --   leftOf c    == the same with the two slices as they are left
@@ -44,6 +45,11 @@ toldOf (refused k) = record { kind = 2; value = k }
 
 abbrev pub turnOf : State × Step → State × Told
 turnOf t = (t .0, toldOf (t .1))
+
+unfoldable pub keptOn : State → State × Step → State × Step
+keptOn r (begun, ask p) = (begun, ask p)
+keptOn r (begun, done) = (begun, done)
+keptOn r (begun, refused k) = (r, refused k)
 
 unfoldable pub rowOf : Fetch → FlatRow
 rowOf (row r) = record { pattern = r .pattern; count = r .count; refusal = 0 }

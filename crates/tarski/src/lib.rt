@@ -7,8 +7,8 @@ ghost use Rattle.solver.specs.Solving.{solveOf};
 ghost use Rattle.query.specs.Opened.{opened, answer as askedOf};
 ghost use Rattle.rounds.specs.RoundEnd.{roundRows};
 ghost use Rattle.runs.specs.Run.{answerOf, fetchOf, copyOf, refused, late};
-ghost use Rattle.determination.specs.Record.{stateOf, stepOf, startedOf};
-ghost use Rattle.tarski.specs.Flat.{cardOf, numberOf, refusalOf, toldOf, turnOf, rowOf, leftOf};
+ghost use Rattle.determination.specs.Record.{stateOf, stepOf, startedOf, outside-limits};
+ghost use Rattle.tarski.specs.Flat.{cardOf, numberOf, refusalOf, toldOf, turnOf, keptOn, rowOf, leftOf};
 use card::Card;
 use determination::Copied;
 use determination::Fetched;
@@ -38,6 +38,13 @@ pub struct Number {
     pub number: i64,
     pub refusal: u16,
 }
+
+// The kinds of what a call on a run gives.
+const ASK: u16 = 0;
+
+const DONE: u16 = 1;
+
+const REFUSED: u16 = 2;
 
 // What a call on a run gives: 0 with the product to ask, 1 where it is done, 2 with the number that refuses.
 #[repr(C)]
@@ -157,24 +164,37 @@ fn tell(step: Step) -> Told
 {
     match step {
         Step::Ask(p) => Told {
-            kind: 0,
+            kind: ASK,
             value: p.0,
         },
-        Step::Done => Told { kind: 1, value: 0 },
-        Step::Refused(k) => Told { kind: 2, value: k },
+        Step::Done => Told {
+            kind: DONE,
+            value: 0,
+        },
+        Step::Refused(k) => Told {
+            kind: REFUSED,
+            value: k,
+        },
     }
 }
 
-// The record of a new run for s polynomials, and what the start gives.
-fn started(s: usize) -> Turn
-    ensures { λ r. ⌜ (stateOf (r .run), r .told) ≡ turnOf (startedOf s) ⌝ }
+// The record of a new run for s polynomials, and what the start gives. Where it is refused, the record is the one before.
+fn started(run: Run, s: usize) -> Turn
+    ensures { λ r. ⌜ ((stateOf (r .run), r .told) ≡ turnOf (keptOn (stateOf run) (startedOf s))) × (r .told ≡ toldOf (refused outside-limits) → r .run ≡ run) ⌝ }
 {
     let first = start(s);
-    let run = first.run;
     let step = first.step;
+    let told = tell(step);
+    if told.kind == REFUSED {
+        return Turn {
+            run: run,
+            told: told,
+        };
+    }
+    let begun = first.run;
     Turn {
-        run: run,
-        told: tell(step),
+        run: begun,
+        told: told,
     }
 }
 
@@ -191,12 +211,12 @@ fn answered(run: Run, a: i64) -> Turn
     }
 }
 
-// Starts a run for s polynomials in the lent record.
+// Starts a run for s polynomials in the lent record. Where s is refused, no run begins and the record is as it was.
 #[no_mangle]
 pub extern "C" fn tarski_start(run: &mut Run, s: usize) -> Told
-    ensures { λ r. ⌜ (stateOf (now (run .exit)), r) ≡ turnOf (startedOf s) ⌝ }
+    ensures { λ r. ⌜ ((stateOf (now (run .exit)), r) ≡ turnOf (keptOn (stateOf (now (run .entry))) (startedOf s))) × (r ≡ toldOf (refused outside-limits) → now (run .exit) ≡ now (run .entry)) ⌝ }
 {
-    let turn = started(s);
+    let turn = started(*run, s);
     *run = turn.run;
     turn.told
 }

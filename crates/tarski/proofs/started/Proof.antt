@@ -1,6 +1,10 @@
 -- `tarski::started` meets its contract. Assumes nothing.
+use mathlib.Core.Path.{refl, ap, _∙_}
 use borrow.Author.Needs.{needs}
-use Rattle.tarski.proofs.Telling.{turned}
+use Rattle.runs.specs.Run.{State, Step}
+use Rattle.determination.specs.Record.{stateOf}
+use Rattle.tarski.specs.Flat.{turnOf, keptOn}
+use Rattle.tarski.proofs.Telling.{kept-refused, kept-begun, refused-kind}
 use Rattle.tarski.proofs.started.Statement.{statement}
 use Rattle.tarski.proofs.started.Tie as tie
 
@@ -11,7 +15,18 @@ tell-requires : tie.Need-tell-requires
 tell-requires c κs = search needs
 
 returns : tie.Need-returns
-returns c = turned _ _ _ _ (c .tell .ensures) (c .before .before .start .ensures)
+returns c =
+    let st = c .before .before .before .before in
+    let r = stateOf (st .args .run) in
+    (kept-refused r _ _ _ (c .before .before .tell .ensures) (c .if1 .taken) ∙ ap (λ (o : State × Step). turnOf (keptOn r o)) (c .before .before .before .start .ensures), λ _. refl)
+
+returns-2 : tie.Need-returns-2
+returns-2 c =
+    let st = c .before .before .before .before .before in
+    let r = stateOf (st .args .run) in (
+      kept-begun r _ _ _ (c .before .before .before .tell .ensures) (c .before .if1 .left) ∙ ap (λ (o : State × Step). turnOf (keptOn r o)) (c .before .before .before .before .start .ensures),
+      λ e. absurd (c .before .if1 .left (refused-kind _ _ e)),
+    )
 
 pub started-spec : {M : Type 1} → statement M
-started-spec = tie.close (tie.spec start-requires tell-requires returns)
+started-spec = tie.close (tie.spec start-requires tell-requires returns returns-2)

@@ -1,16 +1,17 @@
--- `tarski::tarski_start` meets its contract: a walk of its MIR, by hand. The borrow is opened, which gives the record's cell; of the struct that
--- `started` gives the record is stored over the old one, whatever it held, and the borrow is closed at it; and what it tells is the result. All that
--- the proof knows of `started` is that it meets its contract. Assumes nothing.
+-- `tarski::tarski_start` meets its contract: a walk of its MIR, by hand. The borrow is opened, which gives the record's cell; the record is copied out
+-- of it and passed to `started`; of the struct that comes back the record is stored over the old one, and the borrow is closed at it; and what it
+-- tells is the result. All that the proof knows of `started` is that it meets its contract. Assumes nothing.
 use mathlib.Core.Path.{_≡_, refl}
 use mathlib.Core.List.{[], _∷_, List}
 use Prim.Native.Nat.{ℕ}
 use mir.Syntax.{named, w64}
 use mir.Val.{Val, vptr}
-use Rattle.determination.specs.Record.{stateOf, startedOf}
+use Rattle.runs.specs.Run.{refused}
+use Rattle.determination.specs.Record.{stateOf, startedOf, outside-limits}
 use Rattle.determination.specs.declared.Run.{Run}
 use Rattle.determination.proofs.Thin.{Data, Good, owned-of, opened, closed, calls-plain}
 use Rattle.tarski.specs.declared.Turn.{Turn}
-use Rattle.tarski.specs.Flat.{turnOf}
+use Rattle.tarski.specs.Flat.{toldOf, turnOf, keptOn}
 use Rattle.tarski.proofs.Lent.{unsigned, RunD, TurnD, ToldD, run-of, told-of}
 use Rattle.tarski.proofs.started.Symbol.{name as #tarski·started}
 use Rattle.tarski.proofs.tarski_start.Key.{name as #tarski·tarski-start}
@@ -24,7 +25,7 @@ use ghost.Atoms.{Atoms}
 use contract.Monad.{Fun}
 use contract.Running.{givenOf, tables, tablesOf}
 use types.Kit.{Given, ‵, raw, _⊛_, ⋆, _$_, _∵_, !, qed, by, move, keep, drop, use0, split, join, fsplit, fsplit3, fjoin, fjoin3, feqI, suffices, frame, done}
-use types.Run.{look, init, store-raw, forget, stop, hop, fld, from, load, of-opd, and-then, no-more, assigns, land, returns, enter, alloc1, alloc0, params1, pass1, pass0, free1, free0}
+use types.Run.{look, look-raw, init, store-raw, forget, stop, hop, fld, from, load, of-opd, and-then, no-more, assigns, land, returns, enter, alloc1, alloc0, params1, pass1, pass0, free1, free0}
 use types.Part.{whole, sub, look-in}
 use types.SemTy.{Body}
 use sound.WpLaws.{FmC, fmOf, WpFn-mono}
@@ -53,8 +54,8 @@ abbrev NumD : Data
 NumD = unsigned w64
 
 -- what `started` promises of its result
-abbrev Gives : ℕ → Turn → Type 0
-Gives z r = (stateOf (r .run), r .told) ≡ turnOf (startedOf z)
+abbrev Gives : Run → ℕ → Turn → Type 0
+Gives h z r = ((stateOf (r .run), r .told) ≡ turnOf (keptOn (stateOf h) (startedOf z))) × (r .told ≡ toldOf (refused outside-limits) → r .run ≡ h)
 
 abbrev stayed : Stays (start.ended .signature .params) (start.ended .kept)
 stayed = (stay-ref (0 ∷ []) tt (plain (λ _. T.the-row)), (stay-none (λ _. usize) yes, tt))
@@ -76,12 +77,12 @@ module _ {M : Type 1} (𝓤 : URA M) (H : Heap 𝓤) (A : Atoms 𝓤) (W : Given
 
   -- what the call passes, and that it may
   abbrev to : Take 𝓤 H A at-mem run .Ghost
-  to = ((tt, tt, tt, (z, tt), (NumD .val z ∷ [], tt)), tt)
+  to = ((tt, tt, tt, (h, (z, tt)), (RunD .val h ∷ [], (NumD .val z ∷ [], tt))), tt)
 
-  asked : ent 𝓤 (emp 𝓤) (Take 𝓤 H A at-mem run .pre to)
-  asked = qed W [] ∵ nothing ! $ nothing ! $ owned-of ! NumD z z-is $ fjoin ! $ nothing ! $ join ! $ frame ! $ done !
+  asked : Good RunD h → ent 𝓤 (emp 𝓤) (Take 𝓤 H A at-mem run .pre to)
+  asked h-is = qed W [] ∵ nothing ! $ nothing ! $ owned-of ! NumD z z-is $ fjoin ! $ owned-of ! RunD h h-is $ fjoin ! $ nothing ! $ join ! $ frame ! $ done !
 
-  exits : (r : Turn) → Gives z r → Good TurnD r → ent 𝓤 (⋆ 𝓤 H A (‵ (fobs γ (T.the-row .coded .code (r .run))) ∷ ‵ (fbor κ (Body (mem T.the-row) b o γ)) ∷ ‵ (flft κ q) ∷ [])) (Post (ToldD .val (r .told)))
+  exits : (r : Turn) → Gives h z r → Good TurnD r → ent 𝓤 (⋆ 𝓤 H A (‵ (fobs γ (T.the-row .coded .code (r .run))) ∷ ‵ (fbor κ (Body (mem T.the-row) b o γ)) ∷ ‵ (flft κ q) ∷ [])) (Post (ToldD .val (r .told)))
   exits r e r-is =
       qed W (‵ (fobs γ (T.the-row .coded .code (r .run))) ∷ ‵ (fbor κ (Body (mem T.the-row) b o γ)) ∷ ‵ (flft κ q) ∷ []) ∵
       suffices ! _ (ends-at 𝓤 H A start.ended stayed (start.clauses 𝓤 H A at-mem run) W (((κ, tt), (q, tt), tt, x, at), tt) (ToldD .val (r .told)) (r .told) (r .run, (tt, tt)) (tt, (tt, tt))) $
@@ -94,23 +95,25 @@ module _ {M : Type 1} (𝓤 : URA M) (H : Heap 𝓤) (A : Atoms 𝓤) (W : Given
         qed W ((‵ (flft κ q) ⊛ ‵ ftrue) ∷ ‵ (owns (MutRef (named 0) κ T.the-row ∷ usize ∷ []) x at) ∷ []) ∵ split ! $ move ! (2 ∷ []) $ fsplit ! $ fsplit3 ! $ drop ! $ keep ! (0 ∷ 1 ∷ 3 ∷ []) $
         -- [what observes the reference's value; the borrow; the token]
         enter ! C Λ code.function (vptr b o ∷ NumD .val z ∷ []) _ $
-        alloc1 ! (λ l₀. alloc1 ! (λ l₁. alloc1 ! (λ l₂. alloc1 ! (λ l₃. alloc0 ! $ params1 ! $ pass1 ! (init ! 4 refl (tt, tt)) $ pass1 ! (init ! 2 refl (NumD .lawful 𝓤 H A W .typed z _ z-is .0)) $ pass0 ! $
-        move ! (8 ∷ 9 ∷ 10 ∷ []) $ opened ! tt RunD h b o (λ h-is.
-        -- [the record's cell; the open borrow; obs; auth; _3; …; _2; …; _1; …; room for _0; …]
-        -- _3 = started(s)
-        use0 W (raw (Take 𝓤 H A at-mem run .pre to)) asked $
-        calls-plain ! fm take.ended (take.clauses 𝓤 H A at-mem run) known to (and-then ! (load ! (from ! (stop !)) (look ! 7 refl)) (no-more !))
-        (TurnD .val) (TurnD .tells) (Gives z) (λ r _. id⊢ 𝓤 _) (λ r e r-is. drop ! $
-        land ! (from ! (stop !)) (init ! 4 refl (TurnD .lawful 𝓤 H A W .typed r _ r-is .0)) $
+        alloc1 ! (λ l₀. alloc1 ! (λ l₁. alloc1 ! (λ l₂. alloc1 ! (λ l₃. alloc1 ! (λ l₄. alloc0 ! $ params1 ! $ pass1 ! (init ! 6 refl (tt, tt)) $ pass1 ! (init ! 4 refl (NumD .lawful 𝓤 H A W .typed z _ z-is .0)) $ pass0 ! $
+        move ! (10 ∷ 11 ∷ 12 ∷ []) $ opened ! tt RunD h b o (λ h-is.
+        -- [the record's cell; the open borrow; obs; auth; _4; …; _3; …; _2; …; _1; …; room for _0; …]
+        -- _4 = *run
+        assigns ! (of-opd ! (load ! (from ! (hop ! (look ! 10 refl) (stop !))) (look-raw ! 0 refl))) (from ! (stop !)) (init ! 4 refl (RunD .lawful 𝓤 H A W .typed h _ h-is .0)) $
+        -- _3 = started(_4, s)
+        use0 W (raw (Take 𝓤 H A at-mem run .pre to)) (asked h-is) $
+        calls-plain ! fm take.ended (take.clauses 𝓤 H A at-mem run) known to (and-then ! (load ! (from ! (stop !)) (look ! 5 refl)) (and-then ! (load ! (from ! (stop !)) (look ! 9 refl)) (no-more !)))
+        (TurnD .val) (TurnD .tells) (Gives h z) (λ r _. id⊢ 𝓤 _) (λ r e r-is. drop ! $
+        land ! (from ! (stop !)) (init ! 6 refl (TurnD .lawful 𝓤 H A W .typed r _ r-is .0)) $
         -- *run = _3.run
-        assigns ! (of-opd ! (load ! (from ! (fld ! refl (stop !))) (look-in ! 4 (sub ! 0 refl (whole !))))) (from ! (hop ! (look ! 8 refl) (stop !))) (store-raw ! 0 refl (RunD .lawful 𝓤 H A W .typed (r .run) _ (run-of r r-is) .0)) $
+        assigns ! (of-opd ! (load ! (from ! (fld ! refl (stop !))) (look-in ! 6 (sub ! 0 refl (whole !))))) (from ! (hop ! (look ! 10 refl) (stop !))) (store-raw ! 0 refl (RunD .lawful 𝓤 H A W .typed (r .run) _ (run-of r r-is) .0)) $
         -- _0 = _3.told
-        assigns ! (of-opd ! (load ! (from ! (fld ! refl (stop !))) (look-in ! 4 (sub ! 1 refl (whole !))))) (from ! (stop !)) (init ! 10 refl (ToldD .lawful 𝓤 H A W .typed (r .told) _ (told-of r r-is) .0)) $
+        assigns ! (of-opd ! (load ! (from ! (fld ! refl (stop !))) (look-in ! 6 (sub ! 1 refl (whole !))))) (from ! (stop !)) (init ! 12 refl (ToldD .lawful 𝓤 H A W .typed (r .told) _ (told-of r r-is) .0)) $
         closed ! tt RunD (r .run) (run-of r r-is) b o $
-        -- [obs; the borrow; the token; _3; …; _2; …; _1; …; _0; …]
-        returns ! (look ! 9 refl) $ forget ! 3 refl $ forget ! 5 refl $ forget ! 7 refl $ forget ! 9 refl $
-        move ! (9 ∷ 10 ∷ []) $ free1 ! $ move ! (7 ∷ 8 ∷ []) $ free1 ! $ move ! (5 ∷ 6 ∷ []) $ free1 ! $ move ! (3 ∷ 4 ∷ []) $ free1 ! $ free0 ! $
-        by ! (exits r e r-is)))))))
+        -- [obs; the borrow; the token; _4; …; _3; …; _2; …; _1; …; _0; …]
+        returns ! (look ! 11 refl) $ forget ! 3 refl $ forget ! 5 refl $ forget ! 7 refl $ forget ! 9 refl $ forget ! 11 refl $
+        move ! (11 ∷ 12 ∷ []) $ free1 ! $ move ! (9 ∷ 10 ∷ []) $ free1 ! $ move ! (7 ∷ 8 ∷ []) $ free1 ! $ move ! (5 ∷ 6 ∷ []) $ free1 ! $ move ! (3 ∷ 4 ∷ []) $ free1 ! $ free0 ! $
+        by ! (exits r e r-is))))))))
 
 module _ {M : Type 1} (𝓤 : URA M) (H : Heap 𝓤) (A : Atoms 𝓤) (W : Given 𝓤 H A) (at-mem : Memory → SProp 𝓤) (run : Routine → Fun 𝓤) (𝓣 : Tables 𝓤 H) where
   start-meets : Triple 𝓤 (𝓣 .C #tarski·started) (Take 𝓤 H A at-mem run) → Meets 𝓤 H A start.signature (WpFn 𝓤 H (𝓣 .C) (𝓣 .Λ) code.function) (start.spec 𝓤 H A at-mem run)
