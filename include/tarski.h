@@ -42,14 +42,19 @@ struct tarski_opened {
     uint64_t negative[8];
 };
 
+/* Checks a card: 1 to 6 refuse it. */
 struct tarski_card tarski_check(const uint8_t *card, size_t length);
+/* The query of a product on a card, in one call: the card's number, then 13. */
 struct tarski_number tarski_query(const uint8_t *card, size_t length, uint16_t product);
+/* Opens a card, to ask many products of it: its number stands in `refusal`. */
 struct tarski_opened tarski_open(const uint8_t *card, size_t length);
+/* The query of a product on an opened card: the card's number, then 13. */
 struct tarski_number tarski_ask(const struct tarski_opened *card, uint16_t product);
 
 /* ---- the solver */
 
-/* Writes to out the whole numbers on the patterns whose queries on the adapted list are the numbers. Returns 0, or the refusal. */
+/* Writes to out the whole numbers on the patterns, a rising list, whose queries on its adapted list are the numbers. Returns 0, or 3, 11, 15 or 12;
+ * past the numbers out keeps what lay there. */
 uint16_t tarski_solve(size_t polynomials, const uint16_t *patterns, size_t pattern_count, const int64_t *numbers, size_t number_count,
                       int64_t *out, size_t out_length);
 
@@ -91,10 +96,15 @@ struct tarski_copied {
     uint16_t refusal;
 };
 
+/* Begins a run in the lent record: product 0 is to be asked. Refused by 3 outside 1 to 8: no run begins. */
 struct tarski_step tarski_start(struct tarski_run *run, size_t polynomials);
+/* The answer to the product asked last. 8, 9 and 10 close the run; 7 after it was done or closed. */
 struct tarski_step tarski_answer(struct tarski_run *run, int64_t answer);
+/* How many questions the run has asked. */
 size_t tarski_asked(const struct tarski_run *run);
+/* The row at a position from 0: 7 where the run is not done, 14 past the last row. */
 struct tarski_row tarski_row(const struct tarski_run *run, size_t position);
+/* Copies all rows: 7 where the run is not done, 15 where a slice is too short; longer ones keep what lies past the rows. */
 struct tarski_copied tarski_rows(const struct tarski_run *run, uint16_t *patterns, size_t pattern_room, uint16_t *counts, size_t count_room);
 
 #ifdef __cplusplus

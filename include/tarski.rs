@@ -141,7 +141,7 @@ pub fn solve(s: usize, patterns: &[u16], numbers: &[i64], out: &mut [i64]) -> Re
 }
 
 impl Run {
-    /// A run for s polynomials; its first question is product 0.
+    /// A run for s polynomials; its first question is product 0. Outside 1 to 8 it is refused by 3, and the record is read as a closed one.
     pub fn start(s: usize) -> (Run, Step) {
         let mut run = std::mem::MaybeUninit::zeroed();
         unsafe {
