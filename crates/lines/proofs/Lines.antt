@@ -1,5 +1,5 @@
 -- A line put together from its parts, as the code does it and as its definition says it. Assumes nothing.
-use mathlib.Core.Path.{_≡_, refl, ap, _∙_}
+use mathlib.Core.Path.{_≡_, _∙_}
 use mathlib.Core.List.{List, [], _∷_, _++_, append-assoc}
 use Prim.Native.Nat.{ℕ}
 use Rattle.lines.specs.Text.{space, newline}

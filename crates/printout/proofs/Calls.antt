@@ -4,9 +4,9 @@
 --   Calls t os  == calls of `next_line` one after the other, the first on the play t and each on the play that the one before left, gave os
 --   lastOf t os == the play that they leave
 --   texts os    == the lines that they gave
-use mathlib.Core.Path.{_≡_, refl, sym, ap, ap₂, _∙_, subst}
+use mathlib.Core.Path.{_≡_, refl, sym, ap₂, _∙_, subst}
 use mathlib.Core.List.{List, [], _∷_, map}
-use Prim.Native.Nat.{ℕ, suc, _≤_}
+use Prim.Native.Nat.{ℕ}
 use native.Mathlib.Omega.{arith}
 use lib.ListN.{length}
 use contract.Lifetimes.{Lfts}
@@ -15,7 +15,7 @@ use Rattle.lines.specs.Text.{textOf}
 use Rattle.printout.specs.declared.Play.{Play}
 use Rattle.printout.specs.declared.Printed.{Printed}
 use Rattle.printout.specs.Printout.{linesOf}
-use Rattle.printout.specs.Play.{over, Standing, standing, begunOf, nextOf, Shows, Prints}
+use Rattle.printout.specs.Play.{over, Standing, standing, nextOf, Shows, Prints}
 use Rattle.printout.proofs.Printing.{prints}
 use Rattle.printout.proofs.begin.Reads as begin
 use Rattle.printout.proofs.next_line.Reads as next-line

@@ -1,15 +1,14 @@
 -- A card without points: "With no points that is `Q 0 0`, `E 1`" (document 01, "One card through"). Assumes nothing.
-use mathlib.Core.Path.{_≡_, refl, ap, ap₂, _∙_}
-use mathlib.Core.List.{List, [], _∷_, _++_, map}
+use mathlib.Core.Path.{_≡_, refl, ap, _∙_}
+use mathlib.Core.List.{List, [], _∷_, map}
 use Prim.Native.Nat.{ℕ}
 use lib.IntN.{ℤ, pos}
-use lib.ListN.{length}
 use Rattle.signs.specs.Lists.{Below, Rising, upTo}
 use Rattle.layout.specs.Format.{polynomials, points}
 use Rattle.card.specs.Sound.{Sound}
 use Rattle.query.specs.Query.{queryOf, patternAt, patternsOf}
 use Rattle.query.proofs.Answers.{query-none}
-use Rattle.rounds.specs.Rows.{Row, patterns, Positive, IsRows, realized}
+use Rattle.rounds.specs.Rows.{patterns, Positive, IsRows, realized}
 use Rattle.rounds.specs.Rows as rows
 use Rattle.rounds.proofs.Rounds.{realized-rows}
 use Rattle.lines.specs.Text.{questionLine, endLine}

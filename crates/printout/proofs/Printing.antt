@@ -1,42 +1,40 @@
 -- THEOREM: the lines of a play from the beginning on a card are `linesOf` the card, at most 658, and then it is over. On a sound card the run answered by
 -- the card's queries ends done, with the patterns of the card's points, each with its number of points. Assumes nothing.
 use mathlib.Core.Path.{_≡_, refl, sym, ap, _∙_, subst}
-use mathlib.Core.List.{List, [], _∷_, _++_, map, append-assoc, append-nil}
+use mathlib.Core.List.{List, [], _∷_, _++_, append-assoc, append-nil}
 use Prim.Native.Nat.{ℕ, zero, suc, _+_, _*_, _^_, _<_, _≤_}
 use native.Mathlib.Omega.{arith}
 use native.Mathlib.Decide.{ℕ-discrete, decLt}
 use borrow.Author.Tests.{le-leb, lt-ltb, le-ltb}
-use lib.IntN.{ℤ, pos}
+use lib.IntN.{ℤ}
 use lib.ListN.{length, take, getD, length-append, length-map}
 use lib.Seq.{getD-append-seam}
-use Rattle.signs.specs.Lists.{times, Below}
-use Rattle.signs.specs.Signs.{query}
+use Rattle.signs.specs.Lists.{times}
 use Rattle.signs.proofs.Lists.{times-nil, times-same, times-other, times-append}
-use Rattle.layout.specs.Format.{polynomials, points}
+use Rattle.layout.specs.Format.{polynomials}
 use Rattle.card.specs.Card.{refusal}
 use Rattle.card.specs.Answers.{unless}
 use Rattle.card.specs.Sound.{Sound}
 use Rattle.card.proofs.Sound.{sound, unrefused}
 use Rattle.query.specs.declared.Opened.{Opened}
-use Rattle.query.specs.declared.Answer.{Answer}
 use Rattle.query.specs.declared.Answer.the-variants as of-query
-use Rattle.query.specs.Opened.{opened, answer, evaluated}
-use Rattle.query.specs.Query.{queryOf, patternsOf, queryAnswer}
+use Rattle.query.specs.Opened.{opened, answer}
+use Rattle.query.specs.Query.{queryOf, patternsOf}
 use Rattle.query.proofs.Opening.{answer-opened, opened-sound}
 use Rattle.query.proofs.Answers.{query-sound, query-refused}
 use Rattle.query.proofs.Patterns.{query-patterns, patterns-long, patterns-below}
-use Rattle.rounds.specs.Rows.{maxPoints, maxPolynomials, Row, patterns, Oracle, realized, IsRealized, Fits}
+use Rattle.rounds.specs.Rows.{maxPoints, Row, patterns, Oracle, realized, IsRealized, Fits}
 use Rattle.rounds.specs.Rounds.{roundOf, Determined}
 use Rattle.rounds.specs.RoundEnd.{roundRows}
 use Rattle.rounds.proofs.Answers.{Facts, facts, round-low}
 use Rattle.rounds.proofs.Restrict.{fits-append, three-pos, three-mono}
 use Rattle.rounds.proofs.RoundEnds.{roundRows-right}
 use Rattle.rounds.proofs.Realized.{realized-true}
-use Rattle.runs.specs.Run.{State, Step, ask, done, refused, Phase, running, finished, closed, Fetch, row, no-row, startOf, answerOf, fetchRule, fetchOf}
+use Rattle.runs.specs.Run.{State, Step, ask, done, refused, Phase, running, finished, startOf, answerOf, fetchRule, fetchOf}
 use Rattle.determination.specs.Record.{startedOf}
 use Rattle.runs.specs.Demand.{play, heard, asks}
 use Rattle.runs.specs.Truthful.{truthful, enough}
-use Rattle.runs.proofs.Invariant.{Closed, Going, At, Inv, start-inv, going-short, After, answer-running}
+use Rattle.runs.proofs.Invariant.{Closed, At, Inv, start-inv, going-short, After, answer-running}
 use Rattle.runs.proofs.Truthful.{truthful-done}
 use Rattle.lines.specs.Text.{questionLine, rowLine, endLine, refusalLine}
 use Rattle.printout.specs.Printout.{questions, questionLines, rowLines, soundLines, linesOf}

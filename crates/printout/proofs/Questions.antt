@@ -1,15 +1,15 @@
 -- The products that the rounds ask, where the answers are the queries of a list E of patterns: they are `questions s E`, and the rows are the realized
 -- list. Assumes nothing.
 use mathlib.Core.Path.{_≡_, refl, sym, ap, ap₂, _∙_, subst}
-use mathlib.Core.List.{List, [], _∷_, _++_, map}
-use Prim.Native.Nat.{ℕ, zero, suc, _+_, _*_, _%_, _^_, _<_, _≤_}
+use mathlib.Core.List.{List, [], _∷_, _++_}
+use Prim.Native.Nat.{ℕ, zero, suc, _+_, _%_, _^_, _≤_}
 use native.Mathlib.Omega.{arith}
 use lib.IntN.{ℤ, pos}
 use lib.ListN.{length}
 use Rattle.signs.specs.Lists.{Below}
 use Rattle.signs.specs.Signs.{query}
 use Rattle.rounds.specs.Rows.{maxPolynomials, Row, patterns, Oracle, realized, Fits}
-use Rattle.rounds.specs.Rounds.{roundOf, Answered, Determined}
+use Rattle.rounds.specs.Rounds.{roundOf, Determined}
 use Rattle.rounds.proofs.Answers.{Facts, facts}
 use Rattle.rounds.proofs.Restrict.{restrict, restrict-below, restrict-same, fits-left}
 use Rattle.rounds.proofs.Rounds.{realized-rows, fits-restrict, determined-empty}

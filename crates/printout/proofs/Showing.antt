@@ -1,11 +1,11 @@
 -- What a printed line shows, from its parts. Assumes nothing.
 use mathlib.Core.Path.{_≡_, refl, sym, ap, _∙_, subst}
-use mathlib.Core.Bool.{true, false}
+use mathlib.Core.Bool.{false}
 use mathlib.Core.List.{List, []}
-use Prim.Native.Nat.{ℕ, _≤_, _<_}
-use lib.Dec.{eqb, ltb}
+use Prim.Native.Nat.{ℕ, _≤_}
+use lib.Dec.{eqb}
 use lib.IntN.{ℤ}
-use borrow.Author.Tests.{eq-eqb, ne-eqb}
+use borrow.Author.Tests.{eq-eqb}
 use Rattle.signs.specs.declared.Product.{Product}
 use Rattle.query.specs.declared.Opened.{Opened}
 use Rattle.query.specs.declared.Answer.{Answer}
@@ -26,7 +26,7 @@ use Rattle.printout.specs.declared.Stage as code-stage
 use Rattle.printout.specs.declared.Stage.the-variants as stages
 use Rattle.printout.specs.declared.Play.{Play}
 use Rattle.printout.specs.declared.Printed.{Printed}
-use Rattle.printout.specs.Play.{Stage, question, row-at, over, Standing, standing, stageOf, begunOf, gives, onStep, onAnswer, onFetch, afterRow, nextAt, nextOf, Shows}
+use Rattle.printout.specs.Play.{Stage, standing, stageOf, begunOf, gives, onStep, onAnswer, onFetch, afterRow, nextAt, nextOf, Shows}
 
 -- ---- a line made from its parts
 

@@ -2,13 +2,13 @@
 --
 --   leftAfter k t == what the standing t leaves after k lines
 --   textAfter k t == the text of these lines
-use mathlib.Core.Path.{_≡_, refl, sym, ap, ap₂, _∙_, subst}
+use mathlib.Core.Path.{_≡_, refl, sym, ap, ap₂, _∙_}
 use mathlib.Core.List.{List, [], _∷_, _++_, append-assoc, append-nil}
 use Prim.Native.Nat.{ℕ, zero, suc, _≤_}
 use native.Mathlib.Omega.{arith}
 use lib.ListN.{length}
 use Rattle.printout.specs.Printout.{together, printoutOf, linesOf}
-use Rattle.printout.specs.Play.{Stage, over, Standing, begunOf, nextAt, nextOf, Prints}
+use Rattle.printout.specs.Play.{over, Standing, begunOf, nextAt, nextOf, Prints}
 use Rattle.printout.proofs.Printing.{prints, few-lines}
 
 unfoldable pub leftAfter : ℕ → Standing → Standing

@@ -1,5 +1,5 @@
 -- `lines::row_line` meets its contract: 2 bytes, at most 5 digits, a space, at most 5 digits and a newline. Assumes nothing.
-use Prim.Native.Nat.{_+_, _≤_, _<_}
+use Prim.Native.Nat.{_≤_, _<_}
 use native.Mathlib.Omega.{arith}
 use borrow.Author.Needs.{needs}
 use lib.ListN.{length}

@@ -1,8 +1,7 @@
 -- `lines::with_natural` meets its contract. Assumes nothing.
-use mathlib.Core.Path.{_≡_, refl, ap, sym, _∙_}
-use native.Mathlib.Omega.{arith}
+use mathlib.Core.Path.{_≡_, _∙_}
 use borrow.Author.Needs.{needs}
-use lib.ListN.{length, take}
+use lib.ListN.{take}
 use Rattle.lines.specs.Text.{decimal}
 use Rattle.lines.proofs.Decimals.{digits-decimal}
 use Rattle.lines.proofs.with_natural.Statement.{statement}

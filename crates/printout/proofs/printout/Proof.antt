@@ -1,5 +1,5 @@
 -- `printout::printout` meets its contract. Assumes nothing.
-use mathlib.Core.Path.{_≡_, sym, ap, _∙_}
+use mathlib.Core.Path.{sym, ap, _∙_}
 use native.Mathlib.Omega.{arith}
 use lib.ListN.{length}
 use Rattle.printout.proofs.Placing.{placed-short, placed-fits}

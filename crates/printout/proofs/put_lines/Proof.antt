@@ -1,14 +1,14 @@
 -- `printout::put_lines` meets its contract: after k lines their text stands at the front, each at most 32 bytes long. Assumes nothing.
-use mathlib.Core.Path.{_≡_, refl, sym, ap, ap₂, _∙_}
+use mathlib.Core.Path.{_≡_, refl, sym, ap, _∙_}
 use mathlib.Core.List.{List, _++_}
-use Prim.Native.Nat.{ℕ, suc, _+_, _*_, _-_, _≤_}
+use Prim.Native.Nat.{ℕ, _+_, _*_, _-_, _≤_}
 use native.Mathlib.Numerals.{add-one}
 use native.Mathlib.Omega.{arith}
 use borrow.Author.Needs.{needs}
 use lib.ListN.{length, take}
 use lib.Seq.{length-take-le}
 use Rattle.printout.specs.Printout.{printoutOf}
-use Rattle.printout.specs.Play.{Standing, standing, begunOf, nextOf}
+use Rattle.printout.specs.Play.{standing, begunOf}
 use Rattle.printout.proofs.Texts.{leftAfter, textAfter, left-more, text-more, printed-all}
 use Rattle.printout.proofs.put_lines.Statement.{statement}
 use Rattle.printout.proofs.put_lines.Tie as tie
