@@ -1,5 +1,6 @@
 // One line of the table: `bench LINE SIDE TIMES [S ROWS SEED]` does the work of LINE that often, by the proved library (SIDE proved) or in plain
 // Rust (SIDE plain), and prints the nanoseconds that one took. `measured` is what callgrind counts.
+#[allow(dead_code)]
 mod plain;
 
 #[allow(dead_code)]
@@ -91,17 +92,20 @@ fn main() {
     let proved = words[2] == "proved";
     let times = number(3, 1);
     let (s, rows, seed) = (number(4, 8) as usize, number(5, 64) as usize, number(6, 1));
-    let oracle: Vec<u16> = ORACLE.lines().map(|l| l.parse().unwrap()).collect();
+    let oracle = match words.get(4) {
+        Some(_) => patterns(s, rows, seed),
+        None => ORACLE.lines().map(|l| l.parse().unwrap()).collect(),
+    };
     let card = longest();
     let mut work: Box<dyn FnMut()> = match (words[1].as_str(), proved) {
         ("check", true) => Box::new(|| assert_eq!(tarski::check(black_box(&card)), Ok((8, 64)))),
         ("check", false) => Box::new(|| assert_eq!(plain::check(black_box(&card)), Ok((8, 64)))),
         ("query", true) => {
-            let opened = signs(&opened(8, &oracle));
+            let opened = signs(&opened(s, &oracle));
             Box::new(move || assert!(opened.ask(black_box(4373)).is_ok()))
         }
         ("query", false) => {
-            let opened = opened(8, &oracle);
+            let opened = opened(s, &oracle);
             Box::new(move || assert!(plain::ask(&opened, black_box(4373)).is_ok()))
         }
         ("solve", _) => {
@@ -115,24 +119,24 @@ fn main() {
             })
         }
         ("run", true) => {
-            let opened = signs(&opened(8, &oracle));
+            let opened = signs(&opened(s, &oracle));
             Box::new(move || {
-                let (mut run, mut step) = tarski::Run::start(8);
+                let (mut run, mut step) = tarski::Run::start(s);
                 while let tarski::Step::Ask(product) = step {
                     step = run.answer(opened.ask(product).unwrap());
                 }
-                assert_eq!(run.asked(), 593);
+                assert!(run.row(oracle.len() - 1).is_ok() && run.row(oracle.len()).is_err());
             })
         }
         ("run", false) => {
-            let opened = opened(8, &oracle);
+            let opened = opened(s, &oracle);
             Box::new(move || {
-                let mut run = plain::Run::start(8);
+                let mut run = plain::Run::start(s);
                 let mut product = 0;
                 while let plain::Step::Ask(next) = run.answer(plain::ask(&opened, product).unwrap()) {
                     product = next;
                 }
-                assert_eq!(run.asked, 593);
+                assert_eq!(run.rows, oracle.len());
             })
         }
         ("card", true) => Box::new(|| {
