@@ -13,7 +13,7 @@ int main(void) {
         return 0;
     }
     struct tarski_opened opened = tarski_open(card, length);
-    struct tarski_run run;
+    struct tarski_run run = {0};
     struct tarski_step step = tarski_start(&run, said.polynomials);
     while (step.kind == TARSKI_ASK) {
         struct tarski_number answer = tarski_ask(&opened, step.value);
