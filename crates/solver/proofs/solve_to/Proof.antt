@@ -5,7 +5,7 @@ use borrow.Author.Tests.{not-true, not-false}
 use lib.IntN.{ℤ}
 use Rattle.solutions.specs.Solution.{Solution}
 use Rattle.solutions.proofs.SolverRight.{solver-found, solver-refused}
-use Rattle.solver.proofs.Turns.{too-large}
+use Rattle.descent.proofs.Turns.{too-large}
 use borrow.Author.Needs.{needs}
 use Rattle.solver.proofs.solve_to.Statement.{statement}
 use Rattle.solver.proofs.solve_to.Tie as tie

@@ -34,13 +34,13 @@ use Rattle.solutions.specs.Solution.{Posed, Solution}
 use Rattle.solutions.specs.Solver.{Weight, known-1, known-2, lookup, weightOf, values}
 use Rattle.remains.specs.Remains.{remains}
 use Rattle.remains.proofs.Sums.{remains-length}
-use Rattle.solver.specs.Steps.{Parted}
+use Rattle.descent.specs.Steps.{Parted}
 use Rattle.signs.proofs.Weights.{part, part-out, weighted-tally, diff-parts}
 use Rattle.solutions.proofs.Lookup.{lookup-same, lookup-other}
 use Rattle.solutions.proofs.Bounds.{dist, size, fold-size}
 use Rattle.solutions.proofs.Solve.{Solves, solves-same, tally-diff, glue-0, glue-1, glue-2, lows-none, down-0, sum-is, kp, kn, vdp, vdn, down-1, Vp, Vn, lp, ln, tdp, tdn, difference-is, down-2, Tp, Tn, doubled, w₀, w₀′, w₁, w₁′, w₂, w₂′, p⁺, n⁺, balance-1, solution}
 use Rattle.solutions.proofs.SolverRight.{solves-of, give-of, values-length}
-use Rattle.solver.proofs.Places.{part-at, Bal, values-are, block-0, block-1, block-2, part-size, values-size}
+use Rattle.descent.proofs.Places.{part-at, Bal, values-are, block-0, block-1, block-2, part-size, values-size}
 
 -- ---- known moments, as `known-1` and `known-2` have them
 

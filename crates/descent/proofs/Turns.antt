@@ -28,9 +28,9 @@ use Rattle.moments.proofs.Laws.{within-of, abs-second, abs-third}
 use Rattle.remains.proofs.Gathering.{below-all}
 use Rattle.solutions.specs.Solution.{limit, Posed, Solution}
 use Rattle.remains.specs.Remains.{remains}
-use Rattle.solver.specs.Steps.{Answer, Parted, Moment}
+use Rattle.descent.specs.Steps.{Answer, Parted, Moment}
 use Rattle.solutions.proofs.Bounds.{solution-small}
-use Rattle.solver.proofs.Steps.{three, first, second, third, numbers, finish}
+use Rattle.descent.proofs.Steps.{three, first, second, third, numbers, finish}
 
 -- ---- the ends of the recursion
 

@@ -14,29 +14,29 @@ use Rattle.adapted.proofs.Adapting.{some-polynomial}
 use Rattle.adapted.proofs.Merge.{chosen-length}
 use Rattle.moments.proofs.Laws.{back, within-more}
 use Rattle.solutions.specs.Solution.{Solution}
-use Rattle.solver.proofs.Steps.{rank-all}
-use Rattle.solver.proofs.Turns.{too-large, no-patterns, one-pattern, within-sum, second-within, third-within, spread-within, moment-none, room, within-between, parted, below-places, front-list, pow-seven, below-three}
+use Rattle.descent.proofs.Steps.{rank-all}
+use Rattle.descent.proofs.Turns.{too-large, no-patterns, one-pattern, within-sum, second-within, third-within, spread-within, moment-none, room, within-between, parted, below-places, front-list, pow-seven, below-three}
 use Prim.Native.Nat.{ℕ, suc, _+_, _*_, _-_, _<_}
 use borrow.Fn.Kinds.{In}
 use borrow.Fn.PlainCycle.{Measures, is, falls, and}
-use Rattle.solver.proofs.moment.Reads as moment
-use Rattle.solver.proofs.moment.Kinds as moment-kinds
-use Rattle.solver.proofs.+moment+moment_with+solve_list+solve_low+solve_split+solve_with.Lts-moment as moment-lts
-use Rattle.solver.proofs.moment_with.Reads as moment-with
-use Rattle.solver.proofs.moment_with.Kinds as moment-with-kinds
-use Rattle.solver.proofs.+moment+moment_with+solve_list+solve_low+solve_split+solve_with.Lts-moment_with as moment-with-lts
-use Rattle.solver.proofs.solve_list.Reads as solve-list
-use Rattle.solver.proofs.solve_list.Kinds as solve-list-kinds
-use Rattle.solver.proofs.+moment+moment_with+solve_list+solve_low+solve_split+solve_with.Lts-solve_list as solve-list-lts
-use Rattle.solver.proofs.solve_low.Reads as solve-low
-use Rattle.solver.proofs.solve_low.Kinds as solve-low-kinds
-use Rattle.solver.proofs.+moment+moment_with+solve_list+solve_low+solve_split+solve_with.Lts-solve_low as solve-low-lts
-use Rattle.solver.proofs.solve_split.Reads as solve-split
-use Rattle.solver.proofs.solve_split.Kinds as solve-split-kinds
-use Rattle.solver.proofs.+moment+moment_with+solve_list+solve_low+solve_split+solve_with.Lts-solve_split as solve-split-lts
-use Rattle.solver.proofs.solve_with.Reads as solve-with
-use Rattle.solver.proofs.solve_with.Kinds as solve-with-kinds
-use Rattle.solver.proofs.+moment+moment_with+solve_list+solve_low+solve_split+solve_with.Lts-solve_with as solve-with-lts
+use Rattle.descent.proofs.moment.Reads as moment
+use Rattle.descent.proofs.moment.Kinds as moment-kinds
+use Rattle.descent.proofs.+moment+moment_with+solve_list+solve_low+solve_split+solve_with.Lts-moment as moment-lts
+use Rattle.descent.proofs.moment_with.Reads as moment-with
+use Rattle.descent.proofs.moment_with.Kinds as moment-with-kinds
+use Rattle.descent.proofs.+moment+moment_with+solve_list+solve_low+solve_split+solve_with.Lts-moment_with as moment-with-lts
+use Rattle.descent.proofs.solve_list.Reads as solve-list
+use Rattle.descent.proofs.solve_list.Kinds as solve-list-kinds
+use Rattle.descent.proofs.+moment+moment_with+solve_list+solve_low+solve_split+solve_with.Lts-solve_list as solve-list-lts
+use Rattle.descent.proofs.solve_low.Reads as solve-low
+use Rattle.descent.proofs.solve_low.Kinds as solve-low-kinds
+use Rattle.descent.proofs.+moment+moment_with+solve_list+solve_low+solve_split+solve_with.Lts-solve_low as solve-low-lts
+use Rattle.descent.proofs.solve_split.Reads as solve-split
+use Rattle.descent.proofs.solve_split.Kinds as solve-split-kinds
+use Rattle.descent.proofs.+moment+moment_with+solve_list+solve_low+solve_split+solve_with.Lts-solve_split as solve-split-lts
+use Rattle.descent.proofs.solve_with.Reads as solve-with
+use Rattle.descent.proofs.solve_with.Kinds as solve-with-kinds
+use Rattle.descent.proofs.+moment+moment_with+solve_list+solve_low+solve_split+solve_with.Lts-solve_with as solve-with-lts
 use Rattle.moments.proofs.all_small.Reads as all-small-reads
 use Rattle.moments.proofs.combine.Reads as combine-reads
 use Rattle.moments.proofs.put.Reads as put-reads
@@ -46,10 +46,10 @@ use Rattle.remains.proofs.left_over.Reads as left-over-reads
 use Rattle.adapted.proofs.having.Reads as having-reads
 use Rattle.signs.proofs.power.Reads as power-reads
 use Rattle.adapted.proofs.split.Reads as split-reads
-use Rattle.solver.proofs.+moment+moment_with+solve_list+solve_low+solve_split+solve_with.{
+use Rattle.descent.proofs.+moment+moment_with+solve_list+solve_low+solve_split+solve_with.{
   statement,
 }
-use Rattle.solver.proofs.+moment+moment_with+solve_list+solve_low+solve_split+solve_with.Tie.{
+use Rattle.descent.proofs.+moment+moment_with+solve_list+solve_low+solve_split+solve_with.Tie.{
   close,
 }
 
