@@ -5,12 +5,11 @@
 --   polynomial c at == all its coefficients, and 0 above its degree: seven in all
 --   value c at x    == the value at x of that polynomial: the sum of its d + 1 coefficients times x^i
 --   value-of c j k  == the value of polynomial j, from 0, of the card at its point k
---   sign-digit z    == the digit of z's sign in a pattern number: 0 for 0, 1 for +, 2 for −
 use mathlib.Core.Bool.{cond}
 use mathlib.Core.List.{List, [], _∷_}
-use Prim.Native.Nat.{ℕ, zero, suc, _+_}
+use Prim.Native.Nat.{ℕ, _+_}
 use lib.Dec.{ltb}
-use lib.IntN.{ℤ, pos, negsuc, _*ℤ_}
+use lib.IntN.{ℤ, pos, _*ℤ_}
 use lib.ListN.{getD}
 use Rattle.integers.specs.Sums.{sumTo}
 use Rattle.signs.specs.Signs.{power}
@@ -33,8 +32,3 @@ value c at x = sumTo (λ i. coefficient c at i *ℤ power x i) (degree c at + 1)
 
 abbrev pub value-of : List ℕ → ℕ → ℕ → ℤ
 value-of c j k = value c (offset c j) (point-of c k)
-
-unfoldable pub sign-digit : ℤ → ℕ
-sign-digit (pos zero) = 0
-sign-digit (pos (suc n)) = 1
-sign-digit (negsuc n) = 2

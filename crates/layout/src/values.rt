@@ -3,9 +3,10 @@ ghost use mathlib.Core.Path.{_≡_};
 ghost use Prim.Native.Nat.{_≤_};
 ghost use lib.IntN.{natAbs};
 ghost use Rattle.integers.specs.Sums.{Within};
+ghost use Rattle.signs.specs.Signs.{sign-digit};
 ghost use Rattle.layout.specs.Limits.{most-coefficient};
 ghost use Rattle.layout.specs.Body.{Whole};
-ghost use Rattle.layout.specs.Values.{polynomial, evaluate, sign-digit};
+ghost use Rattle.layout.specs.Values.{polynomial, evaluate};
 use crate::coefficient;
 use crate::wide;
 

@@ -10,8 +10,9 @@ use mir.Val.{SFits, toZ, ofZ}
 use mir.Facts.{toZ-ofZ, sfits-lit}
 use Rattle.integers.proofs.Parts.{int, ne-parts}
 use Rattle.integers.proofs.I64.{same-bits, other-bits}
-use Rattle.layout.specs.Values.{evaluate, sign-digit}
-use Rattle.layout.proofs.Digit.{digit-minus, digit-plus, digit-zero}
+use Rattle.signs.specs.Signs.{sign-digit}
+use Rattle.signs.proofs.SignDigits.{digit-minus, digit-plus, digit-zero}
+use Rattle.layout.specs.Values.{evaluate}
 use borrow.Author.Needs.{needs}
 use Rattle.layout.proofs.values.sign.Statement.{statement}
 use Rattle.layout.proofs.values.sign.Tie as tie

@@ -1,12 +1,11 @@
--- The digit of a sign: 0 for 0, 1 for +, 2 for −. Assumes nothing.
+-- The digit of a sign in a pattern number: 0 for 0, 1 for +, 2 for −.
 use mathlib.Core.Path.{_≡_, refl}
 use Prim.Native.Nat.{zero, suc, _<_}
 use native.Mathlib.Omega.{arith}
 use lib.IntN.{ℤ, pos, negsuc}
 use Rattle.integers.specs.Sign.{sgnℤ}
 use Rattle.integers.proofs.Parts.{up, dn}
-use Rattle.signs.specs.Signs.{signOf}
-use Rattle.layout.specs.Values.{sign-digit}
+use Rattle.signs.specs.Signs.{signOf, sign-digit}
 
 -- the sign that the digit of z's sign stands for is z's sign
 pub digit-sign : (z : ℤ) → signOf (sign-digit z) ≡ sgnℤ z
