@@ -1,4 +1,3 @@
-pub mod Limits
 pub mod Format
 pub mod Body
 pub mod Values

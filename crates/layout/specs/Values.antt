@@ -13,11 +13,11 @@ use lib.IntN.{ℤ, pos, _*ℤ_}
 use lib.ListN.{getD}
 use Rattle.integers.specs.Sums.{sumTo}
 use Rattle.signs.specs.Signs.{power}
-use Rattle.layout.specs.Limits.{most-degree}
+use Rattle.refusals.specs.Limits.{mostDegree}
 use Rattle.layout.specs.Format.{offset, degree, coefficient, point-of}
 
 unfoldable pub evaluate : List ℤ → ℤ → ℤ
-evaluate p x = sumTo (λ i. getD p i (pos 0) *ℤ power x i) (most-degree + 1)
+evaluate p x = sumTo (λ i. getD p i (pos 0) *ℤ power x i) (mostDegree + 1)
 
 abbrev pub up-to : List ℕ → ℕ → ℕ → ℕ → ℤ
 up-to c at m i = cond (ltb i m) (coefficient c at i) (pos 0)

@@ -13,7 +13,7 @@ use Rattle.signs.specs.Lists.{times}
 use Rattle.signs.proofs.Lists.{times-nil, times-same, times-other, times-append}
 use Rattle.layout.specs.Format.{polynomials}
 use Rattle.card.specs.Card.{refusal}
-use Rattle.card.specs.Answers.{unless}
+use Rattle.refusals.specs.Numbers.{unless}
 use Rattle.card.specs.Sound.{Sound}
 use Rattle.card.proofs.Sound.{sound, unrefused}
 use Rattle.query.specs.declared.Opened.{Opened}

@@ -15,7 +15,7 @@ use Prim.Native.Nat.{ℕ, zero, suc, _%_, _^_}
 use lib.ListN.{length}
 use Rattle.layout.specs.Format.{polynomials}
 use Rattle.card.specs.Card.{refusal}
-use Rattle.card.specs.Answers.{unless}
+use Rattle.refusals.specs.Numbers.{unless}
 use Rattle.query.specs.Query.{queryOf, patternsOf}
 use Rattle.rounds.specs.Rows.{Row, patterns, realized}
 use Rattle.rounds.specs.Rounds.{roundOf}

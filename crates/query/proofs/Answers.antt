@@ -18,9 +18,9 @@ use Rattle.integers.specs.Sums.{sumTo}
 use Rattle.integers.proofs.Sums.{sumTo-abs, sumTo-ext}
 use Rattle.integers.proofs.Tests.{eq-cases}
 use Rattle.signs.specs.Signs.{power, query}
-use Rattle.card.specs.Numbers.{_when_, _▸_}
+use Rattle.refusals.specs.Numbers.{_when_, _▸_}
 use Rattle.card.specs.Card.{refusal}
-use Rattle.card.specs.Answers.{unless}
+use Rattle.refusals.specs.Numbers.{unless}
 use Rattle.card.specs.Sound.{Sound}
 use Rattle.card.proofs.Sound.{sound, unrefused}
 use Rattle.query.specs.declared.Opened.{Opened}

@@ -24,9 +24,10 @@ use Rattle.layout.specs.Format.{polynomials, points}
 use Rattle.layout.specs.Values.{value-of, sign-digit}
 use Rattle.layout.proofs.Digit.{digit-small}
 use Rattle.layout.proofs.Twos.{below-or}
-use Rattle.card.specs.Numbers.{_▸_}
+use Rattle.refusals.specs.Numbers.{_▸_}
 use Rattle.card.specs.Card.{refusal}
-use Rattle.card.specs.Answers.{unless, reading}
+use Rattle.refusals.specs.Numbers.{unless}
+use Rattle.card.specs.Answers.{reading}
 use Rattle.card.specs.declared.Card.the-variants as card
 use Rattle.card.specs.Sound.{Sound}
 use Rattle.card.proofs.Sound.{sound, unrefused}

@@ -27,12 +27,12 @@ use Rattle.integers.specs.Sums.{sumTo}
 use Rattle.signs.specs.Lists.{upTo}
 use Rattle.signs.specs.Signs.{sign}
 use Rattle.signs.specs.Bits.{bitOf}
-use Rattle.layout.specs.Limits.{most-polynomials, most-points}
+use Rattle.refusals.specs.Limits.{mostPolynomials, mostPoints}
 use Rattle.layout.specs.Format.{polynomials, points}
 use Rattle.layout.specs.Values.{value-of, sign-digit}
-use Rattle.card.specs.Numbers.{wrong-count, wrong-point, _when_, _▸_}
+use Rattle.refusals.specs.Numbers.{wrongCount, wrongPoint, _when_, _▸_}
 use Rattle.card.specs.Card.{refusal}
-use Rattle.card.specs.Answers.{unless}
+use Rattle.refusals.specs.Numbers.{unless}
 use Rattle.query.specs.declared.Answer.{Answer}
 use Rattle.query.specs.declared.Answer.the-variants as of-query
 use Rattle.query.specs.declared.Opened as opened-card
@@ -59,13 +59,13 @@ unfoldable pub wordIn : List ℕ → ℕ → ℕ → ℕ → ℕ
 wordIn c d s j = cond (ltb j s) (signWord c d j) 0
 
 unfoldable pub wordsOf : List ℕ → ℕ → List ℕ
-wordsOf c d = map (wordIn c d (polynomials c)) (upTo most-polynomials)
+wordsOf c d = map (wordIn c d (polynomials c)) (upTo mostPolynomials)
 
 abbrev pub evaluated : List ℕ → opened-card.Opened
 evaluated c = record { refusal = 0; s = polynomials c; n = points c; positive = wordsOf c 1; negative = wordsOf c 2 }
 
 abbrev pub refused : ℕ → opened-card.Opened
-refused m = record { refusal = m; s = 0; n = 0; positive = replicate most-polynomials 0; negative = replicate most-polynomials 0 }
+refused m = record { refusal = m; s = 0; n = 0; positive = replicate mostPolynomials 0; negative = replicate mostPolynomials 0 }
 
 unfoldable pub opened : List ℕ → opened-card.Opened
 opened c = unless (refusal c) refused (evaluated c)
@@ -83,13 +83,13 @@ unfoldable pub summed : opened-card.Opened → ℕ → ℤ
 summed o α = sumTo (λ k. sign (o .s) α (columnTo o (o .s) k)) (o .n)
 
 abbrev pub unlimited : opened-card.Opened → Bool
-unlimited o = ltb (o .s) 1 || (ltb most-polynomials (o .s) || ltb most-points (o .n))
+unlimited o = ltb (o .s) 1 || (ltb mostPolynomials (o .s) || ltb mostPoints (o .n))
 
 unfoldable pub refusedBy : opened-card.Opened → ℕ → ℕ
 refusedBy o α =
-    wrong-count when ltb wrong-point (o .refusal)
+    wrongCount when ltb wrongPoint (o .refusal)
     ▸ o .refusal
-    ▸ wrong-count when unlimited o
+    ▸ wrongCount when unlimited o
     ▸ wrong-product when leb (3 ^ o .s) α
 
 unfoldable pub answer : opened-card.Opened → ℕ → Answer

@@ -20,9 +20,9 @@ use Rattle.signs.specs.Lists.{upTo}
 use Rattle.signs.specs.Signs.{power}
 use Rattle.layout.specs.Format.{polynomials, points}
 use Rattle.layout.specs.Values.{value-of, sign-digit}
-use Rattle.card.specs.Numbers.{_when_, _▸_}
+use Rattle.refusals.specs.Numbers.{_when_, _▸_}
 use Rattle.card.specs.Card.{refusal}
-use Rattle.card.specs.Answers.{unless}
+use Rattle.refusals.specs.Numbers.{unless}
 use Rattle.query.specs.declared.Answer.{Answer}
 use Rattle.query.specs.declared.Answer.the-variants as of-query
 

@@ -14,25 +14,24 @@ ghost use Rattle.card.specs.Sound.{Sound};
 ghost use Rattle.query.specs.Opened.{signWord, evaluated, opened, summed, answer};
 ghost use Rattle.query.specs.Query.{queryAnswer};
 use card::Card;
-use card::numbers;
 use layout::values;
 use signs::Product;
 use signs::digit;
 use signs::power;
 
 // The numbers that refuse (document 01, "Cause, and what the caller gets"): those of `card`, as wide as a run's, and that of a product.
-const NONE: u16 = numbers::NONE as u16; // not refused
+const NONE: u16 = refusals::NONE; // not refused
 
-const COUNT: u16 = numbers::COUNT as u16; // s or n is outside its limits
+const COUNT: u16 = refusals::WRONG_COUNT; // s or n is outside its limits
 
-const POINT: u16 = numbers::POINT as u16; // the last of a card's numbers
+const POINT: u16 = refusals::WRONG_POINT; // the last of a card's numbers
 
 pub const PRODUCT: u16 = 13; // the product number is above 3^s − 1
 
 // The limits of a card.
-const MOST_POLYNOMIALS: usize = numbers::MOST_POLYNOMIALS as usize;
+const MOST_POLYNOMIALS: usize = refusals::MOST_POLYNOMIALS;
 
-const MOST_POINTS: usize = numbers::MOST_POINTS as usize;
+const MOST_POINTS: usize = refusals::MOST_POINTS;
 
 // Every bit of a word.
 const EVERY: u64 = 0xffff_ffff_ffff_ffff;
@@ -113,7 +112,7 @@ pub fn open(card: &[u8]) -> Opened
     match card::read(card) {
         Card::Sound { s, n } => evaluate(card, s, n),
         Card::Refused(m) => Opened {
-            refusal: m as u16,
+            refusal: m,
             s: 0,
             n: 0,
             positive: [0u64; MOST_POLYNOMIALS],

@@ -11,7 +11,7 @@ use mir.Val.{SFits, toZ, ofZ}
 use mir.Facts.{toZ-ofZ}
 use Rattle.integers.specs.Sums.{Within}
 use Rattle.integers.proofs.Parts.{int, parts, side}
-use Rattle.layout.specs.Limits.{most-coefficient}
+use Rattle.refusals.specs.Limits.{mostCoefficient}
 use Rattle.layout.specs.Format.{offset}
 use Rattle.layout.specs.Body.{Whole}
 use Rattle.layout.specs.Values.{polynomial, evaluate, value}
@@ -41,7 +41,7 @@ module _ (c : List ℕ) (j at : ℕ) (h : place c j ≡ 0) (e : at ≡ offset c 
   body-at = subst (Whole c) (sym e) (held c j h .body .small .whole)
 
   module _ (p : List ℤ) (d : p ≡ polynomial c at) where
-    within : Within most-coefficient p
+    within : Within mostCoefficient p
     within = rw (d, e) (polynomial-within c (offset c j) (held c j h .body .small))
 
     its-value : (x : ℤ) → evaluate p x ≡ value c (offset c j) x

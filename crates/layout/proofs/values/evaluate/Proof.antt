@@ -12,7 +12,7 @@ use mir.Facts.{toZ-ofZ}
 use Rattle.integers.specs.Sums.{Within}
 use Rattle.integers.proofs.Abs.{abs-sum}
 use Rattle.integers.proofs.I64.{fits-abs}
-use Rattle.layout.specs.Limits.{most-coefficient}
+use Rattle.refusals.specs.Limits.{mostCoefficient}
 use Rattle.layout.specs.Values.{evaluate}
 use Rattle.layout.proofs.Horner.{from, top, top-le, from-none, from-more, from-all, from-times, from-top}
 use Rattle.layout.proofs.values.evaluate.Statement.{statement}
@@ -25,7 +25,7 @@ abbrev μ-loop : tie.MeasureT-loop
 μ-loop p x v₀ i₀ v i = i
 
 -- ---- what is known in a turn, which takes coefficient i − 1
-module _ (p : List ℤ) (x : ℤ) (s : Within most-coefficient p) (b : natAbs x ≤ 128) (i : ℕ) (l : i ≤ 7) where
+module _ (p : List ℤ) (x : ℤ) (s : Within mostCoefficient p) (b : natAbs x ≤ 128) (i : ℕ) (l : i ≤ 7) where
   abbrev sofar : ℤ
   sofar = from (λ k. getD p k (pos 0)) x i (7 - i)
 
