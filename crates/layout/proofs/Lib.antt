@@ -1,3 +1,2 @@
 pub mod Twos
-pub mod Horner
 pub mod Coefficients
