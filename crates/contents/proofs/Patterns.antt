@@ -51,7 +51,7 @@ sgn-product v (suc s) α =
 -- ---- all points
 
 module _ {X : Type 0} (f : X → ℕ) where
-  map-below : (b : ℕ) → ((x : X) → f x < b) → (l : List X) → Below b (map f l)
+  pub map-below : (b : ℕ) → ((x : X) → f x < b) → (l : List X) → Below b (map f l)
   unfolding Below
   map-below b h [] = tt
   map-below b h (x ∷ l) = (h x, map-below b h l)

@@ -1,3 +1,4 @@
 pub mod Twos
 pub mod Horner
 pub mod Coefficients
+pub mod Contents

@@ -1,4 +1,4 @@
--- `query::sum` meets its contract: the digits passed are in the two words, those left below. Assumes nothing.
+-- `query::sum` meets its contract: the digits passed are in the two words, those left below.
 use mathlib.Core.Path.{_≡_, _∙_}
 use Prim.Native.Nat.{ℕ, suc, _-_, _+_, _*_, _%_, _^_, _≤_, _<_}
 use native.Mathlib.Omega.{arith}
