@@ -1,5 +1,5 @@
 -- The products that the rounds ask, where the answers are the queries of a list E of patterns: they are `questions s E`, and the rows are the realized
--- list. Assumes nothing.
+-- list.
 use mathlib.Core.Path.{_≡_, refl, sym, ap, ap₂, _∙_, subst}
 use mathlib.Core.List.{List, [], _∷_, _++_}
 use Prim.Native.Nat.{ℕ, zero, suc, _+_, _%_, _^_, _≤_}
