@@ -15,7 +15,8 @@ use Rattle.layout.specs.Format.{polynomials, points, offset, points-at, point-o
 use Rattle.card.specs.Card.{header, bodies, refusal, place}
 use Rattle.refusals.specs.Limits.{mostCoefficient}
 use Rattle.layout.specs.Body.{Whole, Body}
-use Rattle.layout.specs.Values.{evaluate, polynomial, value-of}
+use Rattle.polynomials.specs.Values.{evaluate}
+use Rattle.layout.specs.Values.{polynomial, value-of}
 use Rattle.layout.proofs.Coefficients.{polynomial-within, evaluate-polynomial}
 use Rattle.card.specs.Sound.{Sound}
 use Rattle.card.specs.Answers.{reading}

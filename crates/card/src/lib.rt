@@ -75,5 +75,5 @@ pub fn value(card: &[u8], j: usize, x: i8) -> Evaluated
         return Evaluated::Refused(number);
     }
     let p = layout::values::polynomial(card, layout::offset(card, j));
-    Evaluated::Value(layout::values::evaluate(&p, x as i64))
+    Evaluated::Value(polynomials::evaluate(&p, x as i64))
 }

@@ -1,4 +1,4 @@
--- The coefficients of a polynomial in a list of seven, 0 above its degree: the list as it is filled, its value, its bound. Assumes nothing.
+-- The coefficients of a polynomial in a list of seven, 0 above its degree: the list as it is filled, its value, its bound.
 use mathlib.Core.Path.{_≡_, refl, sym, ap, _∙_}
 use mathlib.Core.Logic.{_⊎_, inl, inr, ⊎-elim}
 use mathlib.Core.List.{List, [], _∷_}
@@ -15,7 +15,8 @@ use Rattle.signs.specs.Signs.{power}
 use Rattle.refusals.specs.Limits.{mostCoefficient}
 use Rattle.layout.specs.Format.{degree, coefficient}
 use Rattle.layout.specs.Body.{Small}
-use Rattle.layout.specs.Values.{evaluate, up-to, polynomial, value}
+use Rattle.polynomials.specs.Values.{evaluate}
+use Rattle.layout.specs.Values.{up-to, polynomial, value}
 use Rattle.layout.proofs.Twos.{below-or}
 
 abbrev pub zeros : List ℤ

@@ -1,4 +1,3 @@
 pub mod Twos
-pub mod Horner
 pub mod Coefficients
 pub mod Contents

@@ -1,6 +1,5 @@
--- The values of a card's polynomials. Assumes nothing: these are definitions.
+-- The values of a card's polynomials.
 --
---   evaluate p x    == the value at x of the polynomial with the coefficients p, from the constant up: the sum of p[i] times x^i to degree 6
 --   up-to c at m i  == coefficient i of the polynomial whose body begins at byte `at`, and 0 from i = m on
 --   polynomial c at == all its coefficients, and 0 above its degree: seven in all
 --   value c at x    == the value at x of that polynomial: the sum of its d + 1 coefficients times x^i
@@ -10,14 +9,9 @@ use mathlib.Core.List.{List, [], _∷_}
 use Prim.Native.Nat.{ℕ, _+_}
 use lib.Dec.{ltb}
 use lib.IntN.{ℤ, pos, _*ℤ_}
-use lib.ListN.{getD}
 use Rattle.integers.specs.Sums.{sumTo}
 use Rattle.signs.specs.Signs.{power}
-use Rattle.refusals.specs.Limits.{mostDegree}
 use Rattle.layout.specs.Format.{offset, degree, coefficient, point-of}
-
-unfoldable pub evaluate : List ℤ → ℤ → ℤ
-evaluate p x = sumTo (λ i. getD p i (pos 0) *ℤ power x i) (mostDegree + 1)
 
 abbrev pub up-to : List ℕ → ℕ → ℕ → ℕ → ℤ
 up-to c at m i = cond (ltb i m) (coefficient c at i) (pos 0)

@@ -14,7 +14,8 @@ use Rattle.integers.proofs.Parts.{int, parts, side}
 use Rattle.refusals.specs.Limits.{mostCoefficient}
 use Rattle.layout.specs.Format.{offset}
 use Rattle.layout.specs.Body.{Whole}
-use Rattle.layout.specs.Values.{polynomial, evaluate, value}
+use Rattle.polynomials.specs.Values.{evaluate}
+use Rattle.layout.specs.Values.{polynomial, value}
 use Rattle.layout.proofs.Coefficients.{polynomial-within, evaluate-polynomial}
 use Rattle.card.specs.declared.Evaluated.the-variants as Evaluated
 use Rattle.card.specs.Card.{place}

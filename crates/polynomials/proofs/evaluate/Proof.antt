@@ -1,4 +1,4 @@
--- `layout::values::evaluate` meets its contract. The loop's invariant: v is what Horner's rule has once it has taken coefficient i. Assumes nothing.
+-- `polynomials::evaluate` meets its contract. The loop's invariant: v is what Horner's rule has once it has taken coefficient i.
 
 use mathlib.Core.Path.{_≡_, sym, ap, ap₂, _∙_}
 use mathlib.Core.List.{List}
@@ -13,10 +13,10 @@ use Rattle.integers.specs.Sums.{Within}
 use Rattle.integers.proofs.Abs.{abs-sum}
 use Rattle.integers.proofs.I64.{fits-abs}
 use Rattle.refusals.specs.Limits.{mostCoefficient}
-use Rattle.layout.specs.Values.{evaluate}
-use Rattle.layout.proofs.Horner.{from, top, top-le, from-none, from-more, from-all, from-times, from-top}
-use Rattle.layout.proofs.values.evaluate.Statement.{statement}
-use Rattle.layout.proofs.values.evaluate.Tie as tie
+use Rattle.polynomials.specs.Values.{evaluate}
+use Rattle.polynomials.proofs.Horner.{from, top, top-le, from-none, from-more, from-all, from-times, from-top}
+use Rattle.polynomials.proofs.evaluate.Statement.{statement}
+use Rattle.polynomials.proofs.evaluate.Tie as tie
 
 abbrev Inv-loop : tie.InvT-loop
 Inv-loop p x v₀ i₀ v i = (i ≤ 7) × (toZ w64 v ≡ from (λ k. getD p k (pos 0)) (toZ w64 x) i (7 - i))

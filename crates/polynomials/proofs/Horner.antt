@@ -1,4 +1,4 @@
--- Horner's rule: a polynomial's value from the top coefficient down, and a bound on what stands on the way. Assumes nothing.
+-- Horner's rule: a polynomial's value from the top coefficient down, and a bound on what stands on the way.
 --
 --   from a x i m == the sum of a (i + k) times x^k over the m numbers k from 0: what Horner's rule has once it has taken a i, m coefficients in all
 --   top m        == a bound on it where each coefficient is within 1,000,000 and x within 128

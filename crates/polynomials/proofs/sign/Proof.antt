@@ -1,4 +1,4 @@
--- `layout::values::sign` meets its contract. Assumes nothing.
+-- `polynomials::sign` meets its contract.
 use mathlib.Core.Path.{_≡_, sym, ap, _∙_}
 use mathlib.Core.Bool.{true, false}
 use mathlib.Core.List.{List}
@@ -12,10 +12,10 @@ use Rattle.integers.proofs.Parts.{int, ne-parts}
 use Rattle.integers.proofs.I64.{same-bits, other-bits}
 use Rattle.signs.specs.Signs.{sign-digit}
 use Rattle.signs.proofs.SignDigits.{digit-minus, digit-plus, digit-zero}
-use Rattle.layout.specs.Values.{evaluate}
+use Rattle.polynomials.specs.Values.{evaluate}
 use borrow.Author.Needs.{needs}
-use Rattle.layout.proofs.values.sign.Statement.{statement}
-use Rattle.layout.proofs.values.sign.Tie as tie
+use Rattle.polynomials.proofs.sign.Statement.{statement}
+use Rattle.polynomials.proofs.sign.Tie as tie
 
 module _ (v : ℤ) (f : SFits w64 v) where
   minus : ltZ (toZ w64 (ofZ w64 v)) (pos 0) ≡ true → 2 ≡ sign-digit v
