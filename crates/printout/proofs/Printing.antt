@@ -16,6 +16,7 @@ use Rattle.layout.specs.Format.{polynomials}
 use Rattle.layout.specs.Contents.{contentsOf}
 use Rattle.layout.proofs.Contents.{points-long}
 use Rattle.card.specs.Card.{refusal}
+use Rattle.refusals.specs.Limits.{mostPoints, mostQuestions}
 use Rattle.refusals.specs.Numbers.{unless}
 use Rattle.card.specs.Sound.{Sound}
 use Rattle.card.proofs.Sound.{sound, unrefused}
@@ -25,7 +26,7 @@ use Rattle.query.specs.Opened.{opened, answer}
 use Rattle.query.specs.Query.{queryOf, patternsOf}
 use Rattle.query.proofs.Opening.{answer-opened, opened-sound}
 use Rattle.query.proofs.Answers.{query-sound, query-refused}
-use Rattle.rounds.specs.Rows.{maxPoints, Row, patterns, Oracle, realized, IsRealized, Fits}
+use Rattle.rounds.specs.Rows.{Row, patterns, Oracle, realized, IsRealized, Fits}
 use Rattle.rounds.specs.Rounds.{roundOf, Determined}
 use Rattle.rounds.specs.RoundEnd.{roundRows}
 use Rattle.rounds.proofs.Answers.{Facts, facts, round-low}
@@ -63,7 +64,7 @@ module _ (o : Opened) (r : State) (done : r .phase ≡ finished) where
   unfolding nextOf nextAt onFetch fetchOf fetchRule afterRow
   next-row p x h b g = rw (done, lt-ltb p (length (r .rows)) h, lt-ltb p 64 b, g) refl
 
-  rows-print : length (r .rows) ≤ 64 → (before after : List Row) → before ++ after ≡ r .rows
+  rows-print : length (r .rows) ≤ mostPoints → (before after : List Row) → before ++ after ≡ r .rows
       → Prints (at o r (row-at (length before))) (rowLines after ++ (endLine (r .total) ∷ []))
   unfolding rowLines
   rows-print few before [] e =
@@ -116,10 +117,10 @@ asked-below s r zs qs α I e = go (r .round) (subst (λ (f : Phase). At s r zs (
               three-mono (suc i) s (g .in-range),
             )
 
-running-short : (s : ℕ) (r : State) (zs : List ℤ) (ps : List ℕ) → Inv s r zs ps → r .phase ≡ running → length zs ≤ 2 * maxPoints * s
+running-short : (s : ℕ) (r : State) (zs : List ℤ) (ps : List ℕ) → Inv s r zs ps → r .phase ≡ running → length zs ≤ 2 * mostPoints * s
 running-short s r zs ps I e = go (r .round) (subst (λ (f : Phase). At s r zs ps f (r .round)) e (I .at))
   where
-    go : (k : ℕ) → At s r zs ps running k → length zs ≤ 2 * maxPoints * s
+    go : (k : ℕ) → At s r zs ps running k → length zs ≤ 2 * mostPoints * s
     go zero (a, b, c) = omega (arith, ap length a)
     go (suc i) g = omega (arith, going-short s i r zs ps g, g .in-range)
 
@@ -154,8 +155,8 @@ module _ (c : List ℕ) (S : Sound c) where
     rest : List ℕ
     all : qs ++ rest ≡ questions s E
     prints : Prints t (questionLines c rest ++ tail)
-    few-q : length (questions s E) ≤ 593
-    few-r : length (realized s E) ≤ 64
+    few-q : length (questions s E) ≤ mostQuestions
+    few-r : length (realized s E) ≤ mostPoints
 
   card-answers : (α : ℕ) → α < 3 ^ s → answer (opened c) α ≡ of-query.Number (queryOf c α)
   card-answers α b = answer-opened c α ∙ query-sound c α S b
@@ -164,7 +165,7 @@ module _ (c : List ℕ) (S : Sound c) where
   abbrev Goes : ℕ → Type 0
   Goes k =
       (r : State) (zs : List ℤ) (qs : List ℕ) (α : ℕ) → Inv s r zs (qs ++ (α ∷ [])) → r .phase ≡ running → length qs ≡ length zs
-      → Fits s E qs zs → 2 * maxPoints * s < length zs + k → Rest qs (at (opened c) r (question α))
+      → Fits s E qs zs → 2 * mostPoints * s < length zs + k → Rest qs (at (opened c) r (question α))
 
   one-question : (k : ℕ) → Goes k → Goes (suc k)
   unfolding asks heard
@@ -232,7 +233,7 @@ module _ (c : List ℕ) (S : Sound c) where
           found : r′ .rows ≡ realized s E
           found = found-realized s E holds (zs ++ (z ∷ [])) ps (r′ .rows) D fit
 
-          few : length (realized s E) ≤ 64
+          few : length (realized s E) ≤ mostPoints
           few = few-rows s E holds (zs ++ (z ∷ [])) ps (r′ .rows) D fit
 
           total : r′ .total ≡ length (questions s E)
@@ -243,7 +244,7 @@ module _ (c : List ℕ) (S : Sound c) where
               unfold questionLines in
               subst (λ (R : List Row). Prints (at (opened c) r′ (row-at 0)) (rowLines R ++ (endLine (length (questions s E)) ∷ []))) found
               (subst (λ (n : ℕ). Prints (at (opened c) r′ (row-at 0)) (rowLines (r′ .rows) ++ (endLine n ∷ []))) total
-              (rows-print (opened c) r′ fin (subst (λ (R : List Row). length R ≤ 64) (sym found) few) [] (r′ .rows) refl))
+              (rows-print (opened c) r′ fin (subst (λ (R : List Row). length R ≤ mostPoints) (sym found) few) [] (r′ .rows) refl))
       go (r′, refused n) h B =
           let C : Closed s (zs ++ (z ∷ [])) ps =
           subst (λ (p : Phase). At s r′ (zs ++ (z ∷ [])) ps p (r′ .round)) (sym (B .phase)) (last r′ (B .inv) .at) in
@@ -262,7 +263,7 @@ module _ (c : List ℕ) (S : Sound c) where
   whole : Rest [] (begunOf c)
   whole =
       subst (Rest []) (sym begins)
-      (goes (suc (2 * maxPoints * s)) (startOf s) [] [] 0 (start-inv s) refl refl (unfold Fits in tt) (omega arith))
+      (goes (suc (2 * mostPoints * s)) (startOf s) [] [] 0 (start-inv s) refl refl (unfold Fits in tt) (omega arith))
 
   pub sound-prints : Prints (begunOf c) (soundLines c)
   unfolding soundLines

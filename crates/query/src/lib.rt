@@ -63,7 +63,7 @@ fn mark(card: &[u8], j: usize, from: usize, n: usize) -> Signs
     let mut k = n;
     while 0 < k {
         k -= 1;
-        let d = values::sign(&p, layout::point(card, from, k));
+        let d = polynomials::sign(&p, layout::point(card, from, k));
         positive = 2 * positive + signs::bit(d, 1) as u64;
         negative = 2 * negative + signs::bit(d, 2) as u64;
     }

@@ -13,7 +13,8 @@ use Rattle.refusals.specs.Limits.{mostPoints}
 use Rattle.signs.specs.Signs.{sign-digit}
 use Rattle.signs.specs.Bits.{bitOf}
 use Rattle.layout.specs.Format.{polynomials, points, offset, points-at, point}
-use Rattle.layout.specs.Values.{value-of, evaluate, polynomial}
+use Rattle.polynomials.specs.Values.{evaluate}
+use Rattle.layout.specs.Values.{value-of, polynomial}
 use Rattle.layout.specs.Contents.{contentsOf}
 use Rattle.layout.proofs.Contents.{points-long, map-point-at}
 use Rattle.card.specs.Sound.{Sound}
