@@ -1,5 +1,5 @@
--- THEOREM: a run started with the s of contents and answered throughout by their queries ends done, and its rows are the patterns of the points, each
--- once, rising, with its number of points. For points of any type.
+-- THEOREM: a run started with the s of contents and answered throughout by their queries ends done, and its rows are the patterns of the
+-- points, each once, rising, with its number of points. For points of any type.
 use mathlib.Core.Path.{_≡_, refl, sym, ap, _∙_, subst, fun-ext}
 use mathlib.Core.List.{List, _∷_}
 use Prim.Native.Nat.{ℕ, zero, suc, _≤_}

@@ -1,7 +1,7 @@
 -- The run on contents (document 01, "The run"): started with their s and answered throughout by their queries.
 --
---   answeredBy q k r α == from the record r, which has asked the product α: the answers q to the products asked, k of them, or fewer where a step
---                         asks nothing more
+--   answeredBy q k r α == from the record r, which has asked the product α: the answers q to the products asked, k of them, or fewer where
+--                         a step asks nothing more
 --   runOn K k          == the record of the run on the contents K after k answers, or fewer
 --   rowsIn K           == the patterns of the points of K, each once, rising, with its number of points
 use mathlib.Core.List.{List, [], _∷_}

@@ -46,7 +46,8 @@ example-lines : linesOf example ≡
     ∷ questionLine 6 (pos 3) ∷ questionLine 7 (pos 1) ∷ questionLine 9 (negsuc 0) ∷ questionLine 10 (pos 1) ∷ questionLine 18 (pos 3)
     ∷ questionLine 19 (pos 1) ∷ rowLine 13 1 ∷ rowLine 22 1 ∷ rowLine 26 1 ∷ endLine 11 ∷ [])
 unfolding linesOf soundLines questionLines rowLines questions roundsTo lowered refusal header contents bodies polynomial coefficients last some offset two's word
-    queryIn productTo patternsIn patternTo value sign-digit power upTo sumℤ sumTo realized rowsOf rowIf times patterns roundOf adapted lows signsOf keep shift
+    queryIn productTo patternsIn patternTo value sign-digit power upTo sumℤ sumTo
+    realized rowsOf rowIf times patterns roundOf adapted lows signsOf keep shift
 example-lines = refl
 
 -- `Q 9 -1`

@@ -50,7 +50,8 @@ module _ (c : List ℕ) (α : ℕ) where
   -- and where a query is shown the card is sound and the product below 3^s
   pub query-shown : (z : ℤ) → queryAnswer c α ≡ of-query.Number z → Sound c × (α < 3 ^ polynomials c)
   query-shown z e =
-      ⊎-elim (λ w. ⊎-elim (λ b. (sound c (w .0), b)) (λ b. absurd (differ wrongProduct (query-past (sound c (w .0)) b))) (below-or α (3 ^ polynomials c)))
+      ⊎-elim (λ w. let S = sound c (w .0) in
+      ⊎-elim (λ b. (S, b)) (λ b. absurd (differ wrongProduct (query-past S b))) (below-or α (3 ^ polynomials c)))
       (λ w. absurd (differ (refusal c) (query-refused (w .0)))) (eq-cases (refusal c) 0)
     where
       differ : (m : ℕ) → queryAnswer c α ≡ of-query.Refused m → ⊥
@@ -85,7 +86,8 @@ causes zero false false h = inl refl
 
 pub answer-listed : (o : Opened) (α m : ℕ) → answer o α ≡ of-query.Refused m → Listed m
 unfolding answer refusedBy
-answer-listed o α m = listed (refusedBy o α) m _ (causes (ownNumber (o .refusal)) (unlimited o) (leb (3 ^ o .s) α) (own-listed (o .refusal)))
+answer-listed o α m =
+    listed (refusedBy o α) m _ (causes (ownNumber (o .refusal)) (unlimited o) (leb (3 ^ o .s) α) (own-listed (o .refusal)))
 
 pub query-listed : (c : List ℕ) (α m : ℕ) → queryAnswer c α ≡ of-query.Refused m → Listed m
 query-listed c α m e = answer-listed (opened c) α m (answer-opened c α ∙ e)

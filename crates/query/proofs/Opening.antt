@@ -2,7 +2,7 @@
 --
 --   Filled K d s l == the list l holds the words of the first s polynomials of K for the sign digit d, and 0 for the others
 use mathlib.Core.Path.{_≡_, refl, sym, ap, subst, _∙_}
-use mathlib.Core.Bool.{Bool, true, false, cond, _||_}
+use mathlib.Core.Bool.{Bool, true, false, _||_}
 use mathlib.Core.Logic.{⊎-elim}
 use mathlib.Core.List.{List, [], _∷_, map}
 use Prim.Native.Nat.{ℕ, zero, suc, _+_, _^_, _<_, _≤_}
@@ -13,7 +13,7 @@ use lib.Dec.{ltb}
 use lib.IntN.{ℤ, pos}
 use lib.ListN.{length, getD, set, replicate, length-map, length-set, length-replicate}
 use lib.Seq.{ext-getD, getD-set-same, getD-set-other}
-use Rattle.refusals.specs.Numbers.{wrongCount, wrongProduct, cardNumbers, isAmong, _when_, _▸_, unless}
+use Rattle.refusals.specs.Numbers.{wrongCount, wrongProduct, cardNumbers, isAmong, _▸_, unless}
 use Rattle.refusals.specs.Limits.{mostPolynomials, mostPoints}
 use Rattle.integers.specs.Sign.{sgnℤ}
 use Rattle.integers.specs.Sums.{sumTo}
@@ -39,7 +39,7 @@ use Rattle.card.proofs.Listed.{refusal-listed}
 use Rattle.query.specs.declared.Opened.{Opened}
 use Rattle.query.specs.declared.Answer.{Answer}
 use Rattle.query.specs.declared.Answer.the-variants as of-query
-use Rattle.query.specs.Query.{queryOf, queryAnswer}
+use Rattle.query.specs.Query.{queryAnswer}
 use Rattle.query.specs.Opened.{bitAt, pointBits, signWord, wordIn, wordsIn, digitBy, columnTo, evaluated, refused, opened}
 use Rattle.query.specs.Opened.{summed, unlimited, ownNumber, refusedBy, answer}
 use Rattle.query.proofs.Words.{word-bit}
@@ -69,7 +69,8 @@ module _ {X : Type 0} (K : Contents X) (d : ℕ) where
       record { long = length-replicate {A = ℕ} mostPolynomials 0; at = λ j. none-at mostPolynomials j ∙ sym (word-past 0 j (omega arith)) }
 
   -- one polynomial more
-  pub filled-next : (s : ℕ) (l : List ℕ) (v : ℕ) → Filled K d s l → s < mostPolynomials → v ≡ signWord K d s → Filled K d (s + 1) (set l s v)
+  pub filled-next : (s : ℕ) (l : List ℕ) (v : ℕ) → Filled K d s l → s < mostPolynomials → v ≡ signWord K d s
+      → Filled K d (s + 1) (set l s v)
   filled-next s l v m h e =
       rw (add-one s) (record { long = simp length-set (m .long); at = λ j. ⊎-elim (λ w. here j (w .0)) (λ w. other j (w .0)) (eq-cases j s) })
     where
@@ -99,7 +100,8 @@ module _ {X : Type 0} (K : Contents X) (d : ℕ) where
 
   -- each is a bit
   pub bits-small : (j : ℕ) → Below 2 (pointBits K d j)
-  bits-small j = map-below (λ x. bitOf (sign-digit (K .value j x)) d) 2 (λ x. omega (arith, bit-le (sign-digit (K .value j x)) d)) (K .points)
+  bits-small j =
+      map-below (λ x. bitOf (sign-digit (K .value j x)) d) 2 (λ x. omega (arith, bit-le (sign-digit (K .value j x)) d)) (K .points)
 
 -- ---- the opened card
 
@@ -137,7 +139,8 @@ own zero x a h = absurd (h refl)
 own (suc m) x a h = refl
 
 -- its own number, or 3 where that is no card's
-own-card : (m x : ℕ) (a : Answer) → (m ≡ 0 → ⊥) → isAmong m cardNumbers ≡ true → of-query.Refused m ≡ unless (ownNumber m ▸ x) of-query.Refused a
+own-card : (m x : ℕ) (a : Answer) → (m ≡ 0 → ⊥) → isAmong m cardNumbers ≡ true
+    → of-query.Refused m ≡ unless (ownNumber m ▸ x) of-query.Refused a
 own-card zero x a z h = absurd (z refl)
 own-card (suc m) x a z h = rw h refl
 
@@ -234,7 +237,9 @@ module _ {X : Type 0} (K : Contents X) (few-s : K .s ≤ mostPolynomials) where
       at : (k : ℕ) → k < length (K .points) → sign (K .s) α (columnTo (evaluated K) (K .s) k) ≡ getD L k (pos 0)
       at k g =
           let p = place (K .points) k g in
-          ap (sign (K .s) α) (column-is k p (K .s) (omega arith)) ∙ sym (sgn-product (valuesAt K (p .x)) (K .s) α) ∙ sym (p .there sign-there (pos 0))
+          ap (sign (K .s) α) (column-is k p (K .s) (omega arith))
+          ∙ sym (sgn-product (valuesAt K (p .x)) (K .s) α)
+          ∙ sym (p .there sign-there (pos 0))
 
 module _ (c : List ℕ) (α : ℕ) where
   answer-sound : Sound c → answer (evaluated (contentsOf c)) α ≡ queryAnswer c α
@@ -243,7 +248,8 @@ module _ (c : List ℕ) (α : ℕ) where
       let K = contentsOf c in
       let u = limits (polynomials c) (length (K .points)) (h .s-least) (h .s-most) (omega (arith, points-long c, h .n-most)) in
       let e = unrefused c h in
-      ⊎-elim (λ b. rw (e, lt-leb (3 ^ polynomials c) α b) (sym (answer-number (evaluated K) α refl u b) ∙ ap of-query.Number (summed-is K (h .s-most) α)))
+      ⊎-elim (λ b. rw (e, lt-leb (3 ^ polynomials c) α b)
+      (sym (answer-number (evaluated K) α refl u b) ∙ ap of-query.Number (summed-is K (h .s-most) α)))
       (λ b. rw (e, le-leb (3 ^ polynomials c) α b) (sym (answer-product (evaluated K) α refl u b))) (below-or α (3 ^ polynomials c))
 
   -- a refused card's number is a card's

@@ -1,5 +1,5 @@
--- Words as rows of bits: the bits of what &, | and ^ give, of the first n bits set, and of the word of a list of bits, made from the top; and how many
--- bits are set.
+-- Words as rows of bits: the bits of what &, | and ^ give, of the first n bits set, and of the word of a list of bits, made from the top;
+-- and how many bits are set.
 use mathlib.Core.Path.{_≡_, refl, sym, ap, ap₂, subst, _∙_}
 use mathlib.Core.List.{List, [], _∷_}
 use Prim.Native.Nat.{ℕ, zero, suc, _+_, _*_, _-_, _/_, _%_, _^_, _<_, _≤_, min, max}
@@ -106,7 +106,8 @@ module _ (l : List ℕ) where
   -- for which there is room
   pub word-room : Below 2 l → (k x : ℕ) → 0 < k → x ≡ wordOf (drop k l) → length l ≤ 64 → 2 * x + 1 < 2 ^ 64
   word-room s k x h e g =
-      omega (arith, e, word-lt (drop k l) (below-drop 2 l k s), length-drop k l, pow-mono {i = length (drop k l)} {j = 63} (omega (arith, length-drop k l)))
+      let d = length-drop k l in
+      omega (arith, e, word-lt (drop k l) (below-drop 2 l k s), pow-mono {i = length (drop k l)} {j = 63} (omega (arith, d)))
 
 -- ---- how many bits are set
 

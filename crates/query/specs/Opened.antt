@@ -1,5 +1,5 @@
--- An opened card, and the query by its words. That the answer of an opened card is `queryAnswer` of the card is a law, and so is that the operations
--- on words give the sum.
+-- An opened card, and the query by its words. That the answer of an opened card is `queryAnswer` of the card is a law, and so is that the
+-- operations on words give the sum.
 --
 --   bitAt w k       == bit k of the word w
 --   wordOf l        == the word whose bit k is element k of l, for a list of bits
@@ -15,8 +15,8 @@
 --   summed o α      == the sum of the signs of the product α over the points of the opened card o, by their columns
 --   unlimited o     == s is outside 1 .. 8, or n is above 64
 --   ownNumber m     == by what an opened card with the number m is refused: by m, but by 3 where m is neither 0 nor a card's
---   refusedBy o α   == the number that refuses the opened card o or the product α, or 0: its own, then 3 where s or n is outside its limits, then 13 for
---                      the product. No card opens to another's number or outside the limits: an opened card may hold anything
+--   refusedBy o α   == the number that refuses the opened card o or the product α, or 0: its own, then 3 where s or n is outside its limits,
+--                      then 13 for the product. No card opens to a number of none or outside the limits: an opened card may hold anything
 --   answer o α      == what an opened card answers: that number, else the sum
 use mathlib.Core.Bool.{Bool, cond, _||_}
 use mathlib.Core.List.{List, [], _∷_, map}

@@ -1,7 +1,7 @@
 -- The Tarski query of a product on a card (document 000, section 3.2; document 01, "Patterns and products"): that of the card's contents.
 --
---   queryOf c α     == the query of the product α on the card c: the sum over its points of the sign of the product's value, a point counted as often
---                      as it stands on the card
+--   queryOf c α     == the query of the product α on the card c: the sum over its points of the sign of the product's value, a point counted
+--                      as often as it stands on the card
 --   patternsOf c    == the patterns of the card's points, in the card's order
 --   queryAnswer c α == what is shown: the number that refuses the card, then that of the product, else the query
 use mathlib.Core.List.{List}

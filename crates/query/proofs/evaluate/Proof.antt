@@ -12,7 +12,8 @@ use Rattle.query.proofs.evaluate.Statement.{statement}
 use Rattle.query.proofs.evaluate.Tie as tie
 
 abbrev Inv-loop : tie.InvT-loop
-Inv-loop card s n from positive₀ negative₀ j₀ positive negative j = (j ≤ s) × Filled (contentsOf card) 1 j positive × Filled (contentsOf card) 2 j negative
+Inv-loop card s n from positive₀ negative₀ j₀ positive negative j =
+    (j ≤ s) × Filled (contentsOf card) 1 j positive × Filled (contentsOf card) 2 j negative
 
 abbrev μ-loop : tie.MeasureT-loop
 μ-loop card s n from positive₀ negative₀ j₀ positive negative j = s - j

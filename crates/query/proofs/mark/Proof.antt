@@ -5,7 +5,7 @@ use Prim.Native.Nat.{ℕ, _+_, _*_, _-_, _^_, _≤_, _<_}
 use native.Mathlib.Omega.{arith}
 use borrow.Author.Needs.{needs, sfits-of}
 use lib.IntN.{ℤ, natAbs}
-use lib.ListN.{length, getD, drop, length-map}
+use lib.ListN.{length, drop, length-map}
 use mir.Syntax.{w64}
 use mir.Val.{SFits, toZ, ofZ}
 use mir.Facts.{toZ-ofZ}
@@ -43,7 +43,8 @@ module _ (c : List ℕ) (d j k x : ℕ) (h : 0 < k) (e : x ≡ wordOf (drop k (b
   turned : (t b : ℕ) → k ≤ points c → b ≡ bitOf t d → t ≡ sign-digit (value-of c j (k - 1)) → 2 * x + b ≡ wordOf (drop (k - 1) (bits c d j))
   turned t b g eb et =
       word-turn (bits c d j) k x b h (omega (arith, bits-long c d j))
-      (eb ∙ ap (λ (y : ℕ). bitOf y d) et ∙ sym (map-point-at c (λ y. bitOf (sign-digit (contentsOf c .value j y)) d) (k - 1) 0 (omega arith))) e
+      (eb ∙ ap (λ (y : ℕ). bitOf y d) et
+      ∙ sym (map-point-at c (λ y. bitOf (sign-digit (contentsOf c .value j y)) d) (k - 1) 0 (omega arith))) e
 
   roomy : points c ≤ mostPoints → 2 * x + 1 < 2 ^ 64
   roomy g = word-room (bits c d j) (bits-small (contentsOf c) d j) k x h e (omega (arith, bits-long c d j))
@@ -69,8 +70,11 @@ loop-holds c =
     let s = c .before .before .before in
     let w = s .args .card .now in
     let j = s .args .j in
-    let n = s .args .n in
-    (omega arith, word-none (bits w 1 j) n (omega (arith, bits-long w 1 j, s .pre .3)), word-none (bits w 2 j) n (omega (arith, bits-long w 2 j, s .pre .3)))
+    let n = s .args .n in (
+      omega arith,
+      word-none (bits w 1 j) n (omega (arith, bits-long w 1 j, s .pre .3)),
+      word-none (bits w 2 j) n (omega (arith, bits-long w 2 j, s .pre .3)),
+    )
 
 sub-k : tie.Need-sub-k Inv-loop μ-loop
 sub-k c = search needs
