@@ -51,7 +51,7 @@ sgn-product v (suc s) α =
 -- ---- all points
 
 module _ {X : Type 0} (f : X → ℕ) where
-  map-below : (b : ℕ) → ((x : X) → f x < b) → (l : List X) → Below b (map f l)
+  pub map-below : (b : ℕ) → ((x : X) → f x < b) → (l : List X) → Below b (map f l)
   unfolding Below
   map-below b h [] = tt
   map-below b h (x ∷ l) = (h x, map-below b h l)
@@ -74,7 +74,8 @@ module _ {X : Type 0} (K : Contents X) where
   pub query-patterns : (α : ℕ) → queryIn K α ≡ query (K .s) (patternsIn K) α
   unfolding queryIn patternsIn
   query-patterns α =
-      sum-map-ext (λ x. sgnℤ (productValue K α x)) (λ x. sign (K .s) α (patternAt K x)) (λ x. sgn-product (valuesAt K x) (K .s) α) (K .points)
+      sum-map-ext (λ x. sgnℤ (productValue K α x)) (λ x. sign (K .s) α (patternAt K x))
+      (λ x. sgn-product (valuesAt K x) (K .s) α) (K .points)
       ∙ map-query (patternAt K) (K .s) α (K .points)
 
 -- ---- the size of a query

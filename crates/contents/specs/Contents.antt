@@ -2,13 +2,13 @@
 -- "Patterns and products"). A point may be of any type X: a number on a card of today.
 --
 --   Contents X         == contents with points in X
---   productTo v s α    == at a point where polynomial j has the value v j, the value of the product α of the first s polynomials: of each, its
---                         value to its power, where any value to the power 0 is 1
+--   productTo v s α    == at a point where polynomial j has the value v j, the value of the product α of the first s polynomials: of each,
+--                         its value to its power, where any value to the power 0 is 1
 --   patternTo v s      == the pattern number of such a point: of the first s polynomials, the digit of their sign
 --   valuesAt K x       == the values of the polynomials of the contents K at the point x
 --   productValue K α x == the value of the product α of all polynomials of K at the point x
---   queryIn K α        == the Tarski query of the product α: the sum over the points of the sign of that value, a point counted as often as it stands
---                         in K
+--   queryIn K α        == the Tarski query of the product α: the sum over the points of the sign of that value, a point counted as often as
+--                         it stands in K
 --   patternAt K x      == the pattern number of the point x
 --   patternsIn K       == the patterns of all points, in the points' order
 use mathlib.Core.List.{List, map}

@@ -1,2 +1,3 @@
 pub mod Twos
 pub mod Coefficients
+pub mod Contents

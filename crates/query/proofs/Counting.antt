@@ -1,5 +1,5 @@
 -- The query of a product on an opened card by words: the points left, where the product is not 0, and among them those where an odd number of factors
--- is negative. Assumes nothing.
+-- is negative.
 --
 --   signAt l o     == the sign at a point by its bit l among the points left and its bit o among the odd ones
 --   Kept P a rest j left odd == at each point of the opened card P the sign that these two words give, times the sign of the product `rest` of its first j
