@@ -10,10 +10,12 @@ use borrow.Author.Tests.{ltb-true, leb-true, eqb-true, lt-ltb, le-leb, eq-eqb, n
 use lib.Dec.{eqb, leb, ltb}
 use lib.IntN.{ℤ}
 use lib.ListN.{take}
+use Rattle.refusals.specs.Numbers.{late}
+use Rattle.refusals.specs.Limits.{mostPoints, mostPolynomials}
 use Rattle.signs.specs.Lists.{Below, isBelow}
 use Rattle.signs.proofs.Orders.{both-left, both-right, below-from, below-test}
-use Rattle.rounds.specs.Rows.{maxPoints, maxPolynomials, Row}
-use Rattle.runs.specs.Run.{State, refused, late, answerOf}
+use Rattle.rounds.specs.Rows.{Row}
+use Rattle.runs.specs.Run.{State, refused, answerOf}
 use Rattle.runs.proofs.Steps.{answer-finished, answer-closed}
 use Rattle.run_parts.specs.Parts.{inLimits}
 use Rattle.determination.specs.Record.{goes-on, is-done, mostAsked, isSound, isRunning, isDone, runningState, doneState, closedState, stateOf}
@@ -55,16 +57,16 @@ pub limits-from : (s asked round points rows answered : ℕ) → inLimits s aske
 unfolding inLimits
 limits-from s asked round points rows answered e =
     let e₁ = both-right (leb 1 s) _ e in
-    let e₂ = both-right (leb s maxPolynomials) _ e₁ in
+    let e₂ = both-right (leb s mostPolynomials) _ e₁ in
     let e₃ = both-right (leb round s) _ e₂ in
-    let e₄ = both-right (leb points maxPoints) _ e₃ in
-    let e₅ = both-right (leb rows maxPoints) _ e₄ in
+    let e₄ = both-right (leb points mostPoints) _ e₃ in
+    let e₅ = both-right (leb rows mostPoints) _ e₄ in
     record {
       least = leb-true 1 s (both-left (leb 1 s) _ e);
-      most = leb-true s 8 (both-left (leb s maxPolynomials) _ e₁);
+      most = leb-true s 8 (both-left (leb s mostPolynomials) _ e₁);
       rounds = leb-true round s (both-left (leb round s) _ e₂);
-      few-points = leb-true points 64 (both-left (leb points maxPoints) _ e₃);
-      few-rows = leb-true rows 64 (both-left (leb rows maxPoints) _ e₄);
+      few-points = leb-true points 64 (both-left (leb points mostPoints) _ e₃);
+      few-rows = leb-true rows 64 (both-left (leb rows mostPoints) _ e₄);
       at-first = λ h. place-first asked round rows answered h e₅ .0;
       at-later = λ h. place-later asked round rows answered h e₅ .0;
       few-asked = place-asked asked round rows answered e₅;
@@ -147,8 +149,8 @@ running-is r e = rw e refl
 pub done-phase : (r : Run) → isDone r ≡ true → (r .phase ≡ is-done) × (r .rows ≤ 64)
 unfolding isDone
 done-phase r e = (
-  eqb-true (r .phase) is-done (both-left (eqb (r .phase) is-done) (leb (r .rows) maxPoints) e),
-  leb-true (r .rows) 64 (both-right (eqb (r .phase) is-done) (leb (r .rows) maxPoints) e),
+  eqb-true (r .phase) is-done (both-left (eqb (r .phase) is-done) (leb (r .rows) mostPoints) e),
+  leb-true (r .rows) 64 (both-right (eqb (r .phase) is-done) (leb (r .rows) mostPoints) e),
 )
 
 not-running : (r : Run) → (r .phase ≡ goes-on → ⊥) → isRunning r ≡ false

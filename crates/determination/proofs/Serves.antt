@@ -7,8 +7,9 @@ use native.Mathlib.Omega.{arith}
 use borrow.Author.Tests.{lt-ltb, le-ltb, le-leb, lt-leb}
 use lib.ListN.{length, getD, take, drop}
 use lib.Seq.{length-take-le, getD-take}
+use Rattle.refusals.specs.Numbers.{late, pastLast, tooShort}
 use Rattle.rounds.specs.Rows.{Row, rowsWith}
-use Rattle.runs.specs.Run.{Phase, running, finished, closed, row, no-row, copied, kept, fetchOf, fetchRule, copyOf, copyRule, late, past-last, too-short}
+use Rattle.runs.specs.Run.{Phase, running, finished, closed, row, no-row, copied, kept, fetchOf, fetchRule, copyOf, copyRule}
 use Rattle.determination.specs.Record.{isRunning, isDone, runningState, doneState, closedState, stateOf}
 use Rattle.determination.specs.declared.Run.{Run}
 use Rattle.runs.proofs.Held.{with-length, with-at, with-map-pattern, with-map-count}
@@ -71,7 +72,7 @@ module _ (r : Run) (d : isDone r ≡ true) (P : length (r .patterns) ≡ 64) (C 
   rows-length : length (rowsWith (take (r .rows) (r .patterns)) (take (r .rows) (r .counts))) ≡ r .rows
   rows-length = with-length (take (r .rows) (r .patterns)) (take (r .rows) (r .counts)) (p-length ∙ sym c-length) ∙ p-length
 
-  pub fetch-past : (p : ℕ) → r .rows ≤ p → no-row past-last ≡ fetchOf (stateOf r) p
+  pub fetch-past : (p : ℕ) → r .rows ≤ p → no-row pastLast ≡ fetchOf (stateOf r) p
   unfolding fetchOf fetchRule
   fetch-past p h = rw (finished-is, rows-length, le-ltb p (r .rows) h) refl
 
@@ -89,11 +90,11 @@ module _ (r : Run) (d : isDone r ≡ true) (P : length (r .patterns) ≡ 64) (C 
       )
       refl
 
-  pub copy-short-patterns : (a b : List ℕ) → length a < r .rows → kept too-short a b ≡ copyOf (stateOf r) a b
+  pub copy-short-patterns : (a b : List ℕ) → length a < r .rows → kept tooShort a b ≡ copyOf (stateOf r) a b
   unfolding copyOf copyRule
   copy-short-patterns a b h = rw (finished-is, rows-length, lt-leb (r .rows) (length a) h) refl
 
-  pub copy-short-counts : (a b : List ℕ) → r .rows ≤ length a → length b < r .rows → kept too-short a b ≡ copyOf (stateOf r) a b
+  pub copy-short-counts : (a b : List ℕ) → r .rows ≤ length a → length b < r .rows → kept tooShort a b ≡ copyOf (stateOf r) a b
   unfolding copyOf copyRule
   copy-short-counts a b g h = rw (finished-is, rows-length, le-leb (r .rows) (length a) g, lt-leb (r .rows) (length b) h) refl
 

@@ -1,7 +1,6 @@
 -- The run record of the code, and what it stands for in the rules of `Run`. Assumes nothing: these are definitions.
 --
 --   stepOf, fetchedOf, copiedOf == what the code's calls give, in the rules' words, with document 01's numbers
---   outside-limits   == the refusal number 3
 --   goes-on, is-done == the phase of a record whose run goes on, and of one whose run is done
 --   isSound run      == the test of a running record: its numbers are within limits, and its products are of the polynomials before its round
 --   mostAsked        == a number above the questions of any such record
@@ -18,10 +17,12 @@ use Prim.Native.Nat.{ℕ, suc, _+_, _*_, _-_, _^_}
 use lib.Dec.{eqb, leb}
 use lib.IntN.{ℤ}
 use lib.ListN.{take}
+use Rattle.refusals.specs.Numbers.{late, wrongCount}
+use Rattle.refusals.specs.Limits.{mostPoints, mostPolynomials}
 use Rattle.signs.specs.Lists.{isBelow}
-use Rattle.rounds.specs.Rows.{maxPoints, maxPolynomials, Row, rowsWith}
+use Rattle.rounds.specs.Rows.{Row, rowsWith}
 use Rattle.run_parts.specs.Parts.{inLimits}
-use Rattle.runs.specs.Run.{State, running, finished, closed, Step, ask, done, refused, Fetch, row, no-row, Copied, copied, not-copied, late, startOf}
+use Rattle.runs.specs.Run.{State, running, finished, closed, Step, ask, done, refused, Fetch, row, no-row, Copied, copied, not-copied, startOf}
 use Rattle.determination.specs.declared.Run.{Run}
 use Rattle.determination.specs.declared.Answered.{Answered}
 use Rattle.determination.specs.declared.Fetched.{Fetched}
@@ -32,9 +33,6 @@ use Rattle.determination.specs.declared.Copied as code-copied
 use Rattle.determination.specs.declared.Copied.the-variants as copies
 
 -- ---- what a call gives
-
-abbrev pub outside-limits : ℕ
-outside-limits = 3
 
 abbrev pub stepOf : code-step.Step → Step
 stepOf (steps.Ask p) = ask (p .0)
@@ -59,7 +57,7 @@ abbrev pub is-done : ℕ
 is-done = 1
 
 abbrev pub mostAsked : ℕ
-mostAsked = 2 * maxPoints * suc maxPolynomials
+mostAsked = 2 * mostPoints * suc mostPolynomials
 
 unfoldable pub isSound : Run → Bool
 isSound r =
@@ -71,7 +69,7 @@ unfoldable pub isRunning : Run → Bool
 isRunning r = eqb (r .phase) goes-on && isSound r
 
 unfoldable pub isDone : Run → Bool
-isDone r = eqb (r .phase) is-done && leb (r .rows) maxPoints
+isDone r = eqb (r .phase) is-done && leb (r .rows) mostPoints
 
 -- the answers of the round with one more
 abbrev pub withAnswer : Run → ℤ → List ℤ
@@ -118,6 +116,6 @@ stateOf r = cond (isRunning r) (runningState r) (cond (isDone r) (doneState r) (
 
 unfoldable pub startedOf : ℕ → State × Step
 startedOf s =
-    cond (leb 1 s && leb s maxPolynomials)
+    cond (leb 1 s && leb s mostPolynomials)
     (startOf s, ask 0)
-    (record { polynomials = s; total = 0; phase = closed; round = 0; n = 0; rows = []; products = []; answers = [] }, refused outside-limits)
+    (record { polynomials = s; total = 0; phase = closed; round = 0; n = 0; rows = []; products = []; answers = [] }, refused wrongCount)

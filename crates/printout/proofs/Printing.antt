@@ -9,6 +9,7 @@ use borrow.Author.Tests.{le-leb, lt-ltb, le-ltb}
 use lib.IntN.{ℤ}
 use lib.ListN.{length, take, getD, length-append, length-map}
 use lib.Seq.{getD-append-seam}
+use Rattle.refusals.specs.Limits.{mostPoints}
 use Rattle.signs.specs.Lists.{times}
 use Rattle.signs.proofs.Lists.{times-nil, times-same, times-other, times-append}
 use Rattle.layout.specs.Format.{polynomials}
@@ -23,7 +24,7 @@ use Rattle.query.specs.Query.{queryOf, patternsOf}
 use Rattle.query.proofs.Opening.{answer-opened, opened-sound}
 use Rattle.query.proofs.Answers.{query-sound, query-refused}
 use Rattle.query.proofs.Patterns.{query-patterns, patterns-long, patterns-below}
-use Rattle.rounds.specs.Rows.{maxPoints, Row, patterns, Oracle, realized, IsRealized, Fits}
+use Rattle.rounds.specs.Rows.{Row, patterns, Oracle, realized, IsRealized, Fits}
 use Rattle.rounds.specs.Rounds.{roundOf, Determined}
 use Rattle.rounds.specs.RoundEnd.{roundRows}
 use Rattle.rounds.proofs.Answers.{Facts, facts, round-low}
@@ -119,10 +120,10 @@ asked-below s r zs qs α I e = go (r .round) (subst (λ (f : Phase). At s r zs (
               three-mono (suc i) s (g .in-range),
             )
 
-running-short : (s : ℕ) (r : State) (zs : List ℤ) (ps : List ℕ) → Inv s r zs ps → r .phase ≡ running → length zs ≤ 2 * maxPoints * s
+running-short : (s : ℕ) (r : State) (zs : List ℤ) (ps : List ℕ) → Inv s r zs ps → r .phase ≡ running → length zs ≤ 2 * mostPoints * s
 running-short s r zs ps I e = go (r .round) (subst (λ (f : Phase). At s r zs ps f (r .round)) e (I .at))
   where
-    go : (k : ℕ) → At s r zs ps running k → length zs ≤ 2 * maxPoints * s
+    go : (k : ℕ) → At s r zs ps running k → length zs ≤ 2 * mostPoints * s
     go zero (a, b, c) = omega (arith, ap length a)
     go (suc i) g = omega (arith, going-short s i r zs ps g, g .in-range)
 
@@ -167,7 +168,7 @@ module _ (c : List ℕ) (S : Sound c) where
   abbrev Goes : ℕ → Type 0
   Goes k =
       (r : State) (zs : List ℤ) (qs : List ℕ) (α : ℕ) → Inv s r zs (qs ++ (α ∷ [])) → r .phase ≡ running → length qs ≡ length zs
-      → Fits s E qs zs → 2 * maxPoints * s < length zs + k → Rest qs (at (opened c) r (question α))
+      → Fits s E qs zs → 2 * mostPoints * s < length zs + k → Rest qs (at (opened c) r (question α))
 
   one-question : (k : ℕ) → Goes k → Goes (suc k)
   unfolding asks heard
@@ -265,7 +266,7 @@ module _ (c : List ℕ) (S : Sound c) where
   whole : Rest [] (begunOf c)
   whole =
       subst (Rest []) (sym begins)
-      (goes (suc (2 * maxPoints * s)) (startOf s) [] [] 0 (start-inv s) refl refl (unfold Fits in tt) (omega arith))
+      (goes (suc (2 * mostPoints * s)) (startOf s) [] [] 0 (start-inv s) refl refl (unfold Fits in tt) (omega arith))
 
   pub sound-prints : Prints (begunOf c) (soundLines c)
   unfolding soundLines

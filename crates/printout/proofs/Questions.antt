@@ -6,9 +6,10 @@ use Prim.Native.Nat.{ℕ, zero, suc, _+_, _%_, _^_, _≤_}
 use native.Mathlib.Omega.{arith}
 use lib.IntN.{ℤ, pos}
 use lib.ListN.{length}
+use Rattle.refusals.specs.Limits.{mostPolynomials}
 use Rattle.signs.specs.Lists.{Below}
 use Rattle.signs.specs.Signs.{query}
-use Rattle.rounds.specs.Rows.{maxPolynomials, Row, patterns, Oracle, realized, Fits}
+use Rattle.rounds.specs.Rows.{Row, patterns, Oracle, realized, Fits}
 use Rattle.rounds.specs.Rounds.{roundOf, Determined}
 use Rattle.rounds.proofs.Answers.{Facts, facts}
 use Rattle.rounds.proofs.Restrict.{restrict, restrict-below, restrict-same, fits-left}
@@ -63,7 +64,7 @@ module _ (s : ℕ) (E : List ℕ) (O : Oracle s E) (zs : List ℤ) (ps : List �
   pub few-rows : length (realized s E) ≤ 64
   few-rows = subst (λ (l : List Row). length l ≤ 64) found-realized (rows-most s zs ps R d)
 
-  pub few-questions : s ≤ maxPolynomials → length (questions s E) ≤ 593
+  pub few-questions : s ≤ mostPolynomials → length (questions s E) ≤ 593
   few-questions h =
       let (r, each, e) = exact-sum s zs ps R d in
       subst (λ (l : List ℕ). length l ≤ 593) asked-questions (at-most-593 s (length ps) zs r h each e)

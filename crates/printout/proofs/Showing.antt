@@ -6,6 +6,7 @@ use Prim.Native.Nat.{ℕ, _≤_}
 use lib.Dec.{eqb}
 use lib.IntN.{ℤ}
 use borrow.Author.Tests.{eq-eqb}
+use Rattle.refusals.specs.Numbers.{pastLast}
 use Rattle.signs.specs.declared.Product.{Product}
 use Rattle.query.specs.declared.Opened.{Opened}
 use Rattle.query.specs.declared.Answer.{Answer}
@@ -18,7 +19,7 @@ use Rattle.determination.specs.declared.Step.the-variants as steps
 use Rattle.determination.specs.declared.Row.{Row}
 use Rattle.determination.specs.declared.Fetched.{Fetched}
 use Rattle.determination.specs.declared.Fetched.the-variants as fetches
-use Rattle.runs.specs.Run.{State, Step, Fetch, past-last, answerOf, fetchOf}
+use Rattle.runs.specs.Run.{State, Step, Fetch, answerOf, fetchOf}
 use Rattle.determination.specs.Record.{stateOf, stepOf, fetchedOf, startedOf}
 use Rattle.lines.specs.declared.Line.{Line}
 use Rattle.lines.specs.Text.{textOf, questionLine, rowLine, endLine, refusalLine}
@@ -97,13 +98,13 @@ module _ (o : Printed) (card : Opened) (run : Run) (p : ℕ) (x : Fetched) (y : 
       subst (λ (v : Fetch). Shows o (onFetch card (stateOf run) p v)) (ap fetchedOf (sym e) ∙ same)
       (subst (λ (u : Stage). Shows o (gives card (stateOf run) u (rowLine (r .pattern .0) (r .count)))) a (shown o card run g (rowLine (r .pattern .0) (r .count)) m))
 
-  pub last-shown : (k : ℕ) → x ≡ fetches.Refused k → k ≡ past-last → Made o card run stages.Over (endLine (stateOf run .total)) → Shows o (onFetch card (stateOf run) p y)
+  pub last-shown : (k : ℕ) → x ≡ fetches.Refused k → k ≡ pastLast → Made o card run stages.Over (endLine (stateOf run .total)) → Shows o (onFetch card (stateOf run) p y)
   unfolding onFetch
   last-shown k e h m =
       subst (λ (v : Fetch). Shows o (onFetch card (stateOf run) p v)) (ap fetchedOf (sym e) ∙ same)
-      (rw (eq-eqb k past-last h) (shown o card run stages.Over (endLine (stateOf run .total)) m))
+      (rw (eq-eqb k pastLast h) (shown o card run stages.Over (endLine (stateOf run .total)) m))
 
-  pub row-refused : (k : ℕ) → x ≡ fetches.Refused k → eqb k past-last ≡ false → Made o card run stages.Over (refusalLine k) → Shows o (onFetch card (stateOf run) p y)
+  pub row-refused : (k : ℕ) → x ≡ fetches.Refused k → eqb k pastLast ≡ false → Made o card run stages.Over (refusalLine k) → Shows o (onFetch card (stateOf run) p y)
   unfolding onFetch
   row-refused k e h m =
       subst (λ (v : Fetch). Shows o (onFetch card (stateOf run) p v)) (ap fetchedOf (sym e) ∙ same)

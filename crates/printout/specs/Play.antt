@@ -15,13 +15,14 @@ use mathlib.Core.List.{List, [], _∷_}
 use Prim.Native.Nat.{ℕ, suc, _≤_}
 use lib.Dec.{eqb, ltb}
 use lib.IntN.{ℤ}
+use Rattle.refusals.specs.Numbers.{pastLast}
+use Rattle.refusals.specs.Limits.{mostPoints}
 use Rattle.query.specs.Opened.{opened, answer}
 use Rattle.query.specs.declared.Opened.{Opened}
 use Rattle.query.specs.declared.Answer.{Answer}
 use Rattle.query.specs.declared.Answer.the-variants as of-query
-use Rattle.rounds.specs.Rows.{maxPoints}
 use Rattle.rounds.specs.RoundEnd.{roundRows}
-use Rattle.runs.specs.Run.{State, Step, ask, done, refused, Fetch, row, no-row, past-last, answerOf, fetchOf}
+use Rattle.runs.specs.Run.{State, Step, ask, done, refused, Fetch, row, no-row, answerOf, fetchOf}
 use Rattle.determination.specs.Record.{stateOf, startedOf}
 use Rattle.lines.specs.Text.{textOf, questionLine, rowLine, endLine, refusalLine}
 use Rattle.printout.specs.declared.Stage as code-stage
@@ -66,11 +67,11 @@ onAnswer o r α (of-query.Number z) = onStep o α z (answerOf roundRows r z)
 onAnswer o r α (of-query.Refused k) = gives o r over (refusalLine k)
 
 unfoldable pub afterRow : ℕ → Stage
-afterRow p = cond (ltb p maxPoints) (row-at (suc p)) over
+afterRow p = cond (ltb p mostPoints) (row-at (suc p)) over
 
 unfoldable pub onFetch : Opened → State → ℕ → Fetch → Standing × List ℕ
 onFetch o r p (row x) = gives o r (afterRow p) (rowLine (x .pattern) (x .count))
-onFetch o r p (no-row k) = gives o r over (cond (eqb k past-last) (endLine (r .total)) (refusalLine k))
+onFetch o r p (no-row k) = gives o r over (cond (eqb k pastLast) (endLine (r .total)) (refusalLine k))
 
 unfoldable pub nextAt : Opened → State → Stage → Standing × List ℕ
 nextAt o r (question α) = onAnswer o r α (answer o α)

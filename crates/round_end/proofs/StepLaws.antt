@@ -11,10 +11,11 @@ use lib.Dec.{leb, ltb}
 use lib.IntN.{ℤ, pos}
 use lib.ListN.{length, getD, take, drop, set, drop-of-length-le, length-append}
 use lib.Seq.{drop-cons, sets, sets-eq, take-at}
+use Rattle.refusals.specs.Limits.{mostPolynomials, mostPoints}
 use Rattle.integers.proofs.Parts.{same-test}
 use Rattle.signs.specs.Lists.{Below, isBelow, isRising}
 use Rattle.signs.proofs.Orders.{both-left, both-right, below-from}
-use Rattle.rounds.specs.Rows.{maxPoints, Row, patterns, counts, rowsWith, rowIf}
+use Rattle.rounds.specs.Rows.{Row, patterns, counts, rowsWith, rowIf}
 use Rattle.rounds.specs.Moments.{withZero, withPlus, withMinus, fair, allFair, thirds, extendedRows}
 use Rattle.rounds.specs.RoundEnd.{allPositive, sum, properRows}
 use Rattle.round_end.specs.Steps.{withSign, signRows, properCounts}
@@ -254,8 +255,8 @@ put-all-counts = put-three counts counts-append length-counts
 pub record Proper (i : ℕ) (P C : List ℕ) : Type 0 where
   pub rising : isRising P ≡ true
   pub below : isBelow (3 ^ i) P ≡ true
-  pub total : sum C ≤ 64
-  pub few : length P ≤ 64
+  pub total : sum C ≤ mostPoints
+  pub few : length P ≤ mostPoints
 
 pub proper-from : (i : ℕ) (P C : List ℕ) → length C ≡ length P → properRows i (rowsWith P C) ≡ true → Proper i P C
 unfolding properCounts
@@ -263,8 +264,8 @@ proper-from i P C e t =
     let u = sym (proper-is i P C e) ∙ t in
     let v = both-right (isRising P) (isBelow (3 ^ i) P && properCounts C) u in
     let w = both-right (isBelow (3 ^ i) P) (properCounts C) v in
-    let p = both-left (allPositive C) (leb (sum C) maxPoints) w in
-    let q = leb-true (sum C) maxPoints (both-right (allPositive C) (leb (sum C) maxPoints) w) in
+    let p = both-left (allPositive C) (leb (sum C) mostPoints) w in
+    let q = leb-true (sum C) mostPoints (both-right (allPositive C) (leb (sum C) mostPoints) w) in
     record {
       rising = both-left (isRising P) (isBelow (3 ^ i) P && properCounts C) u;
       below = both-left (isBelow (3 ^ i) P) (properCounts C) v;
@@ -278,9 +279,9 @@ pub record Ready (w : ℕ) (P C : List ℕ) (es gs : List ℤ) : Type 0 where
   pub below : Below w P
   pub fair : allFair (rowsWith P C) es gs ≡ true
   pub room :
-      length (signRows w 0 (rowsWith P C) es gs) + length (signRows w 1 (rowsWith P C) es gs) + length (signRows w 2 (rowsWith P C) es gs) ≤ 64
+      length (signRows w 0 (rowsWith P C) es gs) + length (signRows w 1 (rowsWith P C) es gs) + length (signRows w 2 (rowsWith P C) es gs) ≤ mostPoints
 
-pub ready : (i w : ℕ) (P C : List ℕ) (es gs : List ℤ) → i ≤ 7 → w ≡ 3 ^ i → length C ≡ length P → properRows i (rowsWith P C) ≡ true
+pub ready : (i w : ℕ) (P C : List ℕ) (es gs : List ℤ) → i < mostPolynomials → w ≡ 3 ^ i → length C ≡ length P → properRows i (rowsWith P C) ≡ true
     → allFair (rowsWith P C) es gs ≡ true → Ready w P C es gs
 ready i w P C es gs h e l t u =
     let R = rowsWith P C in
@@ -289,7 +290,7 @@ ready i w P C es gs h e l t u =
     let B = signRows w 1 R es gs in
     let D = signRows w 2 R es gs in
     record {
-      base = omega (arith, three-mono i 7 h);
+      base = omega (arith, three-mono i 7 (omega arith));
       below = rw e (below-from (3 ^ i) P (p .below));
       fair = u;
       room =

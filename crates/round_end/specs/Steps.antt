@@ -12,7 +12,8 @@ use mathlib.Core.List.{List}
 use Prim.Native.Nat.{ℕ, zero, suc, _*_}
 use lib.Dec.{leb}
 use lib.IntN.{ℤ}
-use Rattle.rounds.specs.Rows.{maxPoints, Row}
+use Rattle.refusals.specs.Limits.{mostPoints}
+use Rattle.rounds.specs.Rows.{Row}
 use Rattle.rounds.specs.Moments.{withZero, withPlus, withMinus, allFair, thirds, extendedRows}
 use Rattle.rounds.specs.RoundEnd.{allPositive, sum}
 
@@ -25,7 +26,7 @@ abbrev pub signRows : ℕ → ℕ → List Row → List ℤ → List ℤ → Lis
 signRows w t R es gs = thirds (t * w) (withSign t) R es gs
 
 unfoldable pub properCounts : List ℕ → Bool
-properCounts C = allPositive C && leb (sum C) maxPoints
+properCounts C = allPositive C && leb (sum C) mostPoints
 
 abbrev pub Solved : Option (List ℤ) → Bool → List ℤ → Type 0
 Solved none r ws = r ≡ false

@@ -12,6 +12,7 @@ use lib.Dec.{eqb, eqb→eq}
 use lib.IntN.{ℤ, pos, negsuc, natAbs, subℕ, _+ℤ_, _-ℤ_}
 use lib.Signed.{leZ}
 use lib.ListN.{length, take, drop, replicate, length-append, length-replicate, length-take, length-drop, take-append-drop}
+use Rattle.refusals.specs.Limits.{mostPoints}
 use Rattle.integers.specs.Sums.{sumAbs}
 use Rattle.integers.proofs.Parts.{up, dn, sum, dif, true-leZ, int}
 use Rattle.integers.proofs.Tests.{T-of}
@@ -29,7 +30,7 @@ use Rattle.solutions.specs.Solver.{Weight, andThen, values, solverOf}
 use Rattle.solutions.proofs.Solve.{tally-diff}
 use Rattle.solutions.proofs.SolverRight.{values-length, values-weight, some-same, solver-found}
 use Rattle.signs.proofs.Weights.{weighted-tally, diff-parts, part, part-first, part-later, part-out}
-use Rattle.rounds.specs.Rows.{maxPoints, Row, patterns, points, Positive, IsRows, IsAt, rowIf, Fits}
+use Rattle.rounds.specs.Rows.{Row, patterns, points, Positive, IsRows, IsAt, rowIf, Fits}
 use Rattle.rounds.specs.Rounds.{roundOf}
 use Rattle.rounds.specs.NextRows.{NextRows}
 use Rattle.rounds.specs.Moments.{withZero, withPlus, withMinus, fair, allFair, thirds, extendedRows, byMoments}
@@ -404,7 +405,7 @@ values-small w (r ∷ R) h =
 
 -- ---- the end of a round
 
-module _ (i : ℕ) (R₀ : List Row) (ws : List ℤ) (rows : IsRows i R₀) (few : length (points R₀) ≤ maxPoints)
+module _ (i : ℕ) (R₀ : List Row) (ws : List ℤ) (rows : IsRows i R₀) (few : length (points R₀) ≤ mostPoints)
     (full : length ws ≡ length (roundOf i (patterns R₀))) where
   abbrev P : List ℕ
   P = patterns R₀

@@ -8,6 +8,7 @@ use native.Mathlib.Decide.{ℕ-discrete, decLt}
 use lib.IntN.{ℤ, pos, negsuc, natAbs}
 use lib.ListN.{length, take, drop, length-append, length-take, take-append-drop}
 use lib.Seq.{take-append-le}
+use Rattle.refusals.specs.Limits.{mostPoints}
 use Rattle.integers.proofs.Diff.{Diff, diff-add}
 use Rattle.signs.specs.Adapted.{adapted}
 use Rattle.signs.specs.Lists.{times, Below, Rising, shift}
@@ -20,7 +21,7 @@ use Rattle.signs.proofs.Tallies.{Agree}
 use Rattle.signs.proofs.Weights.{IsSign, sign-0, sign-+, sign-−, sign-sign}
 use Rattle.rounds.specs.NextRows.{NextRows}
 use Rattle.rounds.specs.Rounds.{roundOf, Counts, Answered, Determined, Past, AtEnd}
-use Rattle.rounds.specs.Rows.{maxPoints, Row, patterns, points, Positive, IsRows, rowIf, rowsOf, Oracle, realized, Fits}
+use Rattle.rounds.specs.Rows.{Row, patterns, points, Positive, IsRows, rowIf, rowsOf, Oracle, realized, Fits}
 use Rattle.rounds.proofs.Answers.{Facts, facts, query-zero, round-low}
 use Rattle.rounds.proofs.Restrict.{three-mono, restrict, restrict-below, restrict-same, restrict-count, query-low, query-drop, query-ext, fits-move, fits-append, fits-left, fits-right}
 use Rattle.rounds.proofs.RowLaws.{zero-unless, rows-ext, rowsOf-rows, rowsOf-in, points-in, patterns-in, points-below}
@@ -193,7 +194,7 @@ rows-oracle s i zs ps R h F =
     b : Below (3 ^ i) (points R)
     b = points-below (3 ^ i) R (F .rows .below)
 
-    held : length (points R) ≤ maxPoints
+    held : length (points R) ≤ mostPoints
     held = omega (arith, fits-first i (points R) ps zs (F .n) (F .later-answers) (F .later-products) (F .first-answer) (F .first-product) (F .fits), F .small)
 
 -- ---- the end of a round

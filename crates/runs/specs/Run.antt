@@ -1,7 +1,6 @@
 -- The rules of a run (document 01, "The run"): what its record holds, and what the start, an answer, a row fetch and a copy of all rows give.
 -- How a round's rows are found is a parameter N, so that demand 3 rests on `RightRows` of it alone. Assumes nothing: these are definitions.
 --
---   late, bad-first, bad-later, no-counts, past-last, too-short == the refusal numbers 7, 8, 9, 10, 14, 15
 --   Step         == what an answer gives: "the next product to ask, done, or closed with a refusal number"; 7 after done or closed
 --   Fetch        == what a row fetch gives: a row, or a refusal number
 --   Copy         == what a copy of all rows gives: how many rows, or a refusal number; and the two lent slices as they are left
@@ -18,28 +17,12 @@ use Prim.Native.Nat.{ℕ, zero, suc, _+_, _*_, _-_, _^_}
 use lib.Dec.{eqb, leb, ltb}
 use lib.IntN.{ℤ, pos, negsuc, natAbs}
 use lib.ListN.{length, getD, drop}
-use Rattle.rounds.specs.Rows.{maxPoints, Row, patterns, rowIf}
+use Rattle.refusals.specs.Numbers.{late, badFirst, badLater, noCounts, pastLast, tooShort}
+use Rattle.refusals.specs.Limits.{mostPoints}
+use Rattle.rounds.specs.Rows.{Row, patterns, rowIf}
 use Rattle.signs.specs.Adapted.{adapted}
 
 -- ---- what a call gives
-
-abbrev pub late : ℕ
-late = 7
-
-abbrev pub bad-first : ℕ
-bad-first = 8
-
-abbrev pub bad-later : ℕ
-bad-later = 9
-
-abbrev pub no-counts : ℕ
-no-counts = 10
-
-abbrev pub past-last : ℕ
-past-last = 14
-
-abbrev pub too-short : ℕ
-too-short = 15
 
 pub data Step : Type 0 where
   ask : ℕ → Step
@@ -101,7 +84,7 @@ module _ (N : ℕ → List Row → List ℤ → Option (List Row)) where
   )
 
   abbrev pub endRound : State → ℕ → Option (List Row) → State × Step
-  endRound r i none = close r no-counts
+  endRound r i none = close r noCounts
   endRound r i (some R) = ended r (suc i) (r .n) R (eqb (suc i) (r .polynomials))
 
   -- round i + 1 has the answers ws so far: it goes on, or it ends
@@ -114,14 +97,14 @@ module _ (N : ℕ → List Row → List ℤ → Option (List Row)) where
 
   -- the answer of round 0, and one of round i + 1
   abbrev pub first : State → ℤ → State × Step
-  first r (pos n) = cond (leb n maxPoints) (ended r 0 n (rowIf 0 n) (eqb n 0)) (close r bad-first)
-  first r (negsuc n) = close r bad-first
+  first r (pos n) = cond (leb n mostPoints) (ended r 0 n (rowIf 0 n) (eqb n 0)) (close r badFirst)
+  first r (negsuc n) = close r badFirst
 
   abbrev pub later : State → ℕ → ℤ → State × Step
   later r i z =
       cond (leb (natAbs z) (r .n))
       (goOn r i (r .answers ++ (z ∷ [])) (ltb (length (r .answers ++ (z ∷ []))) (2 * length (r .products))))
-      (close r bad-later)
+      (close r badLater)
 
   abbrev pub inRound : State → ℕ → ℤ → State × Step
   inRound r zero z = first r z
@@ -139,7 +122,7 @@ module _ (N : ℕ → List Row → List ℤ → Option (List Row)) where
 
 unfoldable pub fetchRule : Phase → List Row → ℕ → Fetch
 fetchRule running R p = no-row late
-fetchRule finished R p = cond (ltb p (length R)) (row (getD R p (record { pattern = 0; count = 0 }))) (no-row past-last)
+fetchRule finished R p = cond (ltb p (length R)) (row (getD R p (record { pattern = 0; count = 0 }))) (no-row pastLast)
 fetchRule closed R p = no-row late
 
 unfoldable pub fetchOf : State → ℕ → Fetch
@@ -158,8 +141,8 @@ copyRule finished R a b =
       patterns-left = map (λ r. r .pattern) R ++ drop (length R) a;
       counts-left = map (λ r. r .count) R ++ drop (length R) b;
     })
-    (kept too-short a b))
-    (kept too-short a b)
+    (kept tooShort a b))
+    (kept tooShort a b)
 copyRule closed R a b = kept late a b
 
 unfoldable pub copyOf : State → List ℕ → List ℕ → Copy

@@ -2,7 +2,8 @@
 use mathlib.Core.Path.{_≡_, sym, ap, _∙_}
 use Prim.Native.Nat.{ℕ}
 use native.Mathlib.Omega.{arith}
-use Rattle.runs.specs.Run.{State, Step, ask, done, refused, late}
+use Rattle.refusals.specs.Numbers.{late}
+use Rattle.runs.specs.Run.{State, Step, ask, done, refused}
 use Rattle.tarski.specs.declared.Told.{Told}
 use Rattle.tarski.specs.Flat.{toldOf, turnOf, keptOn}
 

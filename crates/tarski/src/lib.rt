@@ -1,13 +1,14 @@
 // The library for programs in C and Rust (include/tarski.h, include/tarski.rs): the proved calls on plain numbers, slices as pointer and length, and
 // records lent by reference. An enum's cases are numbers here: the definitions in specs/Flat.antt say which.
 ghost use mathlib.Core.Path.{_≡_};
+ghost use Rattle.refusals.specs.Numbers.{late, wrongCount};
 ghost use Rattle.card.specs.Answers.{reading};
 ghost use Rattle.query.specs.Query.{queryAnswer};
 ghost use Rattle.solver.specs.Solving.{solveOf};
 ghost use Rattle.query.specs.Opened.{opened, answer as askedOf};
 ghost use Rattle.rounds.specs.RoundEnd.{roundRows};
-ghost use Rattle.runs.specs.Run.{answerOf, fetchOf, copyOf, refused, late};
-ghost use Rattle.determination.specs.Record.{stateOf, stepOf, startedOf, outside-limits};
+ghost use Rattle.runs.specs.Run.{answerOf, fetchOf, copyOf, refused};
+ghost use Rattle.determination.specs.Record.{stateOf, stepOf, startedOf};
 ghost use Rattle.tarski.specs.Flat.{cardOf, numberOf, refusalOf, toldOf, turnOf, keptOn, rowOf, leftOf};
 use card::Card;
 use determination::Copied;
@@ -180,7 +181,7 @@ fn tell(step: Step) -> Told
 
 // The record of a new run for s polynomials, and what the start gives. Where it is refused, the record is the one before.
 fn started(run: Run, s: usize) -> Turn
-    ensures { λ r. ⌜ ((stateOf (r .run), r .told) ≡ turnOf (keptOn (stateOf run) (startedOf s))) × (r .told ≡ toldOf (refused outside-limits) → r .run ≡ run) ⌝ }
+    ensures { λ r. ⌜ ((stateOf (r .run), r .told) ≡ turnOf (keptOn (stateOf run) (startedOf s))) × (r .told ≡ toldOf (refused wrongCount) → r .run ≡ run) ⌝ }
 {
     let first = start(s);
     let step = first.step;
@@ -214,7 +215,7 @@ fn answered(run: Run, a: i64) -> Turn
 // Starts a run for s polynomials in the lent record. Where s is refused, no run begins and the record is as it was.
 #[no_mangle]
 pub extern "C" fn tarski_start(run: &mut Run, s: usize) -> Told
-    ensures { λ r. ⌜ ((stateOf (now (run .exit)), r) ≡ turnOf (keptOn (stateOf (now (run .entry))) (startedOf s))) × (r ≡ toldOf (refused outside-limits) → now (run .exit) ≡ now (run .entry)) ⌝ }
+    ensures { λ r. ⌜ ((stateOf (now (run .exit)), r) ≡ turnOf (keptOn (stateOf (now (run .entry))) (startedOf s))) × (r ≡ toldOf (refused wrongCount) → now (run .exit) ≡ now (run .entry)) ⌝ }
 {
     let turn = started(*run, s);
     *run = turn.run;

@@ -7,8 +7,9 @@ use Prim.Native.Nat.{ℕ}
 use lib.IntN.{ℤ}
 use mir.Syntax.{named, w64}
 use mir.Val.{Val, vptr}
+use Rattle.refusals.specs.Numbers.{late}
 use Rattle.rounds.specs.RoundEnd.{roundRows}
-use Rattle.runs.specs.Run.{answerOf, refused, late}
+use Rattle.runs.specs.Run.{answerOf, refused}
 use Rattle.determination.specs.Record.{stateOf, stepOf}
 use Rattle.determination.specs.declared.Run.{Run}
 use Rattle.determination.specs.declared.Answered.{Answered}

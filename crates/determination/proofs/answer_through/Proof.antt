@@ -36,8 +36,9 @@ use denote.Triple.Table.{entered, cited}
 use denote.Triple.Clauses.{ensured, lasts}
 use denote.Triple.Walked.{says, Stays, stay-none, walkOf, goes-none, ends-at, walked, walk-meets}
 use denote.Exit.{yes}
+use Rattle.refusals.specs.Numbers.{late}
 use Rattle.rounds.specs.RoundEnd.{roundRows}
-use Rattle.runs.specs.Run.{answerOf, refused, late}
+use Rattle.runs.specs.Run.{answerOf, refused}
 use Rattle.determination.specs.Record.{stateOf, stepOf}
 use Rattle.determination.specs.declared.Run.{Run}
 use Rattle.determination.specs.declared.Step.{Step}

@@ -6,8 +6,9 @@ use mathlib.Core.List.{[], _∷_, List}
 use Prim.Native.Nat.{ℕ}
 use mir.Syntax.{named, w64}
 use mir.Val.{Val, vptr}
+use Rattle.refusals.specs.Numbers.{wrongCount}
 use Rattle.runs.specs.Run.{refused}
-use Rattle.determination.specs.Record.{stateOf, startedOf, outside-limits}
+use Rattle.determination.specs.Record.{stateOf, startedOf}
 use Rattle.determination.specs.declared.Run.{Run}
 use Rattle.determination.proofs.Thin.{Data, Good, owned-of, opened, closed, calls-plain}
 use Rattle.tarski.specs.declared.Turn.{Turn}
@@ -55,7 +56,7 @@ NumD = unsigned w64
 
 -- what `started` promises of its result
 abbrev Gives : Run → ℕ → Turn → Type 0
-Gives h z r = ((stateOf (r .run), r .told) ≡ turnOf (keptOn (stateOf h) (startedOf z))) × (r .told ≡ toldOf (refused outside-limits) → r .run ≡ h)
+Gives h z r = ((stateOf (r .run), r .told) ≡ turnOf (keptOn (stateOf h) (startedOf z))) × (r .told ≡ toldOf (refused wrongCount) → r .run ≡ h)
 
 abbrev stayed : Stays (start.ended .signature .params) (start.ended .kept)
 stayed = (stay-ref (0 ∷ []) tt (plain (λ _. T.the-row)), (stay-none (λ _. usize) yes, tt))
