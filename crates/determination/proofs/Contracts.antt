@@ -1,4 +1,4 @@
--- DEMAND 3 of the code: the four calls are known by their contracts alone (`Learnt`: what a call promises of its arguments, its result and what it
+-- DEMAND 3 of the code: the five calls are known by their contracts alone (`Learnt`: what a call promises of its arguments, its result and what it
 -- leaves in lent memory), so that a weaker promise of any of them breaks the theorem. Assumes nothing.
 use mathlib.Core.Path.{_≡_, ap, ap₂, _∙_}
 use mathlib.Core.List.{List, _∷_}
@@ -50,7 +50,7 @@ keeps-starts s c x h m u =
 keeps-answers : (c : Run) (z : ℤ) (c′ : Run) (x : Step) → Took c z c′ x
     → (stateOf c′ ≡ answerOf roundRows (stateOf c) z .0) × (x ≡ answerOf roundRows (stateOf c) z .1)
 keeps-answers c z c′ x u =
-    (ap stateOf (u .left) ∙ ap (λ (p : State × Step). p .0) (u .kept .0), u .gave ∙ ap (λ (p : State × Step). p .1) (u .kept .0))
+    (ap stateOf (u .left) ∙ ap (λ (p : State × Step). p .0) (u .kept .by-rules), u .gave ∙ ap (λ (p : State × Step). p .1) (u .kept .by-rules))
 
 keeps-fetches : (c : Run) (p : ℕ) (x : Fetch) → Fetches c p x → x ≡ fetchOf (stateOf c) p
 keeps-fetches c p x u = u .gave ∙ u .kept

@@ -1,8 +1,6 @@
--- The tests of a record: what they say, what passes them, and what the record stands for then. Assumes nothing.
-use mathlib.Core.Path.{_≡_, refl, sym, ap}
+-- The tests of a record: what they say, what passes them, and what the record stands for then.
+use mathlib.Core.Path.{_≡_, refl, sym, ap, _∙_}
 use mathlib.Core.Bool.{Bool, true, false, cond, _&&_}
-use mathlib.Core.Option.{Option}
-use mathlib.Core.List.{List}
 use Prim.Native.Nat.{ℕ, _+_, _*_, _-_, _^_, _≤_, _<_}
 use native.Mathlib.Decide.{ℕ-discrete}
 use native.Mathlib.Omega.{arith}
@@ -14,11 +12,11 @@ use Rattle.refusals.specs.Numbers.{late}
 use Rattle.refusals.specs.Limits.{mostPoints, mostPolynomials}
 use Rattle.signs.specs.Lists.{Below, isBelow}
 use Rattle.signs.proofs.Orders.{both-left, both-right, below-from, below-test}
-use Rattle.rounds.specs.Rows.{Row}
-use Rattle.runs.specs.Run.{State, refused, answerOf}
-use Rattle.runs.proofs.Steps.{answer-finished, answer-closed}
+use Rattle.rounds.specs.RoundEnd.{roundRows}
+use Rattle.runs.specs.Run.{State, Step, refused, answerOf}
+use Rattle.runs.proofs.Steps.{answer-finished, answer-closed, not-late}
 use Rattle.run_parts.specs.Parts.{inLimits}
-use Rattle.determination.specs.Record.{goes-on, is-done, mostAsked, isSound, isRunning, isDone, runningState, doneState, closedState, stateOf}
+use Rattle.determination.specs.Record.{goes-on, is-done, mostAsked, isSound, isRunning, isDone, runningState, doneState, closedState, stateOf, AnswerGives}
 use Rattle.determination.specs.declared.Run.{Run}
 
 abbrev place : ℕ → ℕ → ℕ → ℕ → Bool
@@ -175,14 +173,23 @@ not-done r h = rw (ne-eqb (r .phase) is-done h) refl
 pub closed-phase : (r : Run) → r .phase ≡ 2 → stateOf r ≡ closedState r
 closed-phase r p = closed-is r (not-running r (λ z. omega (arith, z, p))) (not-done r (λ z. omega (arith, z, p)))
 
--- an answer to a run that does not go on
-pub answer-late : (N : ℕ → List Row → List ℤ → Option (List Row)) (r : Run) (a : ℤ) → isRunning r ≡ false
-    → answerOf N (stateOf r) a ≡ (stateOf r, refused late)
-answer-late N r a e = go (isDone r) refl
+-- ---- what an answer promises
+
+-- of a run that goes on: the rules never refuse it with 7
+pub running-gives : (r r′ : Run) (z : ℤ) (x : Step) → isRunning r ≡ true → (stateOf r′, x) ≡ answerOf roundRows (runningState r) z → AnswerGives r z r′ x
+running-gives r r′ z x e h =
+    record {
+      by-rules = rw (running-is r e) h;
+      as-it-was = λ l. absurd (not-late roundRows (runningState r) z refl (sym (ap (λ (o : State × Step). o .1) h) ∙ l));
+    }
+
+-- of any other
+pub late-gives : (r : Run) (z : ℤ) → isRunning r ≡ false → AnswerGives r z r (refused late)
+late-gives r z e = record { by-rules = sym (go (isDone r) refl); as-it-was = λ _. refl }
   where
-    go : (b : Bool) → isDone r ≡ b → answerOf N (stateOf r) a ≡ (stateOf r, refused late)
-    go true d = answer-finished N (stateOf r) a (ap (λ (s : State). s .phase) (done-is r d))
-    go false d = answer-closed N (stateOf r) a (ap (λ (s : State). s .phase) (closed-is r e d))
+    go : (b : Bool) → isDone r ≡ b → answerOf roundRows (stateOf r) z ≡ (stateOf r, refused late)
+    go true d = answer-finished roundRows (stateOf r) z (ap (λ (s : State). s .phase) (done-is r d))
+    go false d = answer-closed roundRows (stateOf r) z (ap (λ (s : State). s .phase) (closed-is r e d))
 
 -- ---- what the code knows of a record
 

@@ -10,7 +10,9 @@
 --   stateOf run      == what the record stands for. A record may hold anything: one that no start and no answer could have left, so that it fails
 --                       the test, stands for a closed run
 --   withAnswer r z, lateOn r == the round's answers with one more, and what an answer after the end gives
+--   AnswerGives run a run′ step == what an answer a to the record run promises of the record run′ after it and of the step
 --   startedOf s      == the record that a start for s polynomials gives, and the step: 3 outside 1 .. 8
+use mathlib.Core.Path.{_≡_}
 use mathlib.Core.Bool.{Bool, true, cond, _&&_}
 use mathlib.Core.List.{List, [], _∷_, _++_}
 use Prim.Native.Nat.{ℕ, suc, _+_, _*_, _-_, _^_}
@@ -21,8 +23,9 @@ use Rattle.refusals.specs.Numbers.{late, wrongCount}
 use Rattle.refusals.specs.Limits.{mostPoints, mostPolynomials}
 use Rattle.signs.specs.Lists.{isBelow}
 use Rattle.rounds.specs.Rows.{Row, rowsWith}
+use Rattle.rounds.specs.RoundEnd.{roundRows}
 use Rattle.run_parts.specs.Parts.{inLimits}
-use Rattle.runs.specs.Run.{State, running, finished, closed, Step, ask, done, refused, Fetch, row, no-row, Copied, copied, not-copied, startOf}
+use Rattle.runs.specs.Run.{State, running, finished, closed, Step, ask, done, refused, Fetch, row, no-row, Copied, copied, not-copied, startOf, answerOf}
 use Rattle.determination.specs.declared.Run.{Run}
 use Rattle.determination.specs.declared.Answered.{Answered}
 use Rattle.determination.specs.declared.Fetched.{Fetched}
@@ -111,6 +114,14 @@ closedState r =
 
 unfoldable pub stateOf : Run → State
 stateOf r = cond (isRunning r) (runningState r) (cond (isDone r) (doneState r) (closedState r))
+
+-- ---- an answer
+
+pub record AnswerGives (run : Run) (a : ℤ) (run′ : Run) (step : Step) : Type 0 where
+  -- the two are as the rules say
+  pub by-rules : _≡_ {A = State × Step} (stateOf run′, step) (answerOf roundRows (stateOf run) a)
+  -- and where the answer comes too late the record is as it was, whatever it holds
+  pub as-it-was : step ≡ refused late → run′ ≡ run
 
 -- ---- the start
 

@@ -9,13 +9,12 @@ ghost use mathlib.Core.Option.{some};
 ghost use Prim.Native.Nat.{suc, _+_, _*_, _-_, _^_, _≤_, _<_};
 ghost use lib.IntN.{natAbs};
 ghost use lib.ListN.{take};
-ghost use Rattle.refusals.specs.Numbers.{late};
 ghost use Rattle.refusals.specs.Limits.{mostPolynomials, mostPoints};
 ghost use Rattle.signs.specs.Lists.{Below, Rising};
 ghost use Rattle.rounds.specs.RoundEnd.{roundRows};
-ghost use Rattle.runs.specs.Run.{answerOf, close as closeOf, goOn, endRound, ended, first as firstOf, later as laterOf, fetchOf, copyOf, refused};
+ghost use Rattle.runs.specs.Run.{close as closeOf, goOn, endRound, ended, first as firstOf, later as laterOf, fetchOf, copyOf};
 ghost use Rattle.run_parts.specs.Parts.{heldRows};
-ghost use Rattle.determination.specs.Record.{goes-on, mostAsked, isSound, isRunning, runningState, withAnswer, isDone, lateOn, stateOf, stepOf, fetchedOf, copiedOf, startedOf};
+ghost use Rattle.determination.specs.Record.{goes-on, mostAsked, isSound, isRunning, runningState, withAnswer, isDone, lateOn, stateOf, stepOf, fetchedOf, copiedOf, AnswerGives, startedOf};
 use integers::magnitude;
 use refusals::BAD_FIRST;
 use refusals::BAD_LATER;
@@ -347,7 +346,7 @@ fn late(run: Run) -> Answered
 // 0 .. 64, 9 for a later one outside −n .. n, n being the first, and 10 for a round's last one where no counts fit; each closes the record, which
 // then holds no rows. After done or closed 7, and the record is as it was.
 pub fn answer(run: Run, a: i64) -> Answered
-    ensures { λ r. ⌜ ((stateOf (r .run), stepOf (r .step)) ≡ answerOf roundRows (stateOf run) a) × (stepOf (r .step) ≡ refused late → r .run ≡ run) ⌝ }
+    ensures { λ r. ⌜ AnswerGives run a (r .run) (stepOf (r .step)) ⌝ }
 {
     if !running(run) {
         return late(run);
@@ -360,7 +359,7 @@ pub fn answer(run: Run, a: i64) -> Answered
 
 // The same on a lent record: it is updated where it lies, and the step is returned.
 pub fn answer_lent(run: &mut Run, a: i64) -> Step
-    ensures { λ r. ⌜ ((stateOf (now (run .exit)), stepOf r) ≡ answerOf roundRows (stateOf (now (run .entry))) a) × (stepOf r ≡ refused late → now (run .exit) ≡ now (run .entry)) ⌝ }
+    ensures { λ r. ⌜ AnswerGives (now (run .entry)) a (now (run .exit)) (stepOf r) ⌝ }
 {
     let r = answer(*run, a);
     *run = r.run;
@@ -369,7 +368,7 @@ pub fn answer_lent(run: &mut Run, a: i64) -> Step
 
 // The same by value, through the lent entry: a local record is lent to it.
 pub fn answer_through(run: Run, a: i64) -> Answered
-    ensures { λ t. ⌜ ((stateOf (t .run), stepOf (t .step)) ≡ answerOf roundRows (stateOf run) a) × (stepOf (t .step) ≡ refused late → t .run ≡ run) ⌝ }
+    ensures { λ t. ⌜ AnswerGives run a (t .run) (stepOf (t .step)) ⌝ }
 {
     let mut kept = run;
     let step = answer_lent(&mut kept, a);

@@ -1,15 +1,13 @@
 // The library for programs in C and Rust (include/tarski.h, include/tarski.rs): the proved calls on plain numbers, slices as pointer and length, and
 // records lent by reference. An enum's cases are numbers here: the definitions in specs/Flat.antt say which.
 ghost use mathlib.Core.Path.{_≡_};
-ghost use Rattle.refusals.specs.Numbers.{wrongCount, late};
 ghost use Rattle.card.specs.Answers.{reading};
 ghost use Rattle.query.specs.Query.{queryAnswer};
 ghost use Rattle.solver.specs.Solving.{solveOf};
 ghost use Rattle.query.specs.Opened.{opened, answer as askedOf};
-ghost use Rattle.rounds.specs.RoundEnd.{roundRows};
-ghost use Rattle.runs.specs.Run.{answerOf, fetchOf, copyOf, refused};
-ghost use Rattle.determination.specs.Record.{stateOf, stepOf, startedOf};
-ghost use Rattle.tarski.specs.Flat.{cardOf, numberOf, refusalOf, flatStepOf, flatAnsweredOf, keptOn, rowOf, leftOf};
+ghost use Rattle.runs.specs.Run.{fetchOf, copyOf};
+ghost use Rattle.determination.specs.Record.{stateOf, stepOf};
+ghost use Rattle.tarski.specs.Flat.{cardOf, numberOf, refusalOf, flatStepOf, AnswerGivesFlat, StartGivesFlat, rowOf, leftOf};
 use card::Card;
 use determination::Copied;
 use determination::Fetched;
@@ -182,7 +180,7 @@ fn flat_step(step: Step) -> FlatStep
 
 // The record of a new run for s polynomials, and what the start gives. Where it is refused, the record is the one before.
 fn started(run: Run, s: usize) -> FlatAnswered
-    ensures { λ r. ⌜ ((stateOf (r .run), r .step) ≡ flatAnsweredOf (keptOn (stateOf run) (startedOf s))) × (r .step ≡ flatStepOf (refused wrongCount) → r .run ≡ run) ⌝ }
+    ensures { λ r. ⌜ StartGivesFlat run s (r .run) (r .step) ⌝ }
 {
     let first = start(s);
     let step = first.step;
@@ -202,7 +200,7 @@ fn started(run: Run, s: usize) -> FlatAnswered
 
 // The record after an answer, and what it gives.
 fn answered(run: Run, a: i64) -> FlatAnswered
-    ensures { λ r. ⌜ ((stateOf (r .run), r .step) ≡ flatAnsweredOf (answerOf roundRows (stateOf run) a)) × (r .step ≡ flatStepOf (refused late) → r .run ≡ run) ⌝ }
+    ensures { λ r. ⌜ AnswerGivesFlat run a (r .run) (r .step) ⌝ }
 {
     let next = answer(run, a);
     let after = next.run;
@@ -216,7 +214,7 @@ fn answered(run: Run, a: i64) -> FlatAnswered
 // Starts a run for s polynomials in the lent record. Where s is refused, no run begins and the record is as it was.
 #[no_mangle]
 pub extern "C" fn tarski_start(run: &mut Run, s: usize) -> FlatStep
-    ensures { λ r. ⌜ ((stateOf (now (run .exit)), r) ≡ flatAnsweredOf (keptOn (stateOf (now (run .entry))) (startedOf s))) × (r ≡ flatStepOf (refused wrongCount) → now (run .exit) ≡ now (run .entry)) ⌝ }
+    ensures { λ r. ⌜ StartGivesFlat (now (run .entry)) s (now (run .exit)) r ⌝ }
 {
     let next = started(*run, s);
     *run = next.run;
@@ -226,7 +224,7 @@ pub extern "C" fn tarski_start(run: &mut Run, s: usize) -> FlatStep
 // Gives the run in the lent record an answer. Where it comes too late, the record is as it was.
 #[no_mangle]
 pub extern "C" fn tarski_answer(run: &mut Run, a: i64) -> FlatStep
-    ensures { λ r. ⌜ ((stateOf (now (run .exit)), r) ≡ flatAnsweredOf (answerOf roundRows (stateOf (now (run .entry))) a)) × (r ≡ flatStepOf (refused late) → now (run .exit) ≡ now (run .entry)) ⌝ }
+    ensures { λ r. ⌜ AnswerGivesFlat (now (run .entry)) a (now (run .exit)) r ⌝ }
 {
     let next = answered(*run, a);
     *run = next.run;

@@ -7,14 +7,10 @@ use Prim.Native.Nat.{ℕ}
 use lib.IntN.{ℤ}
 use mir.Syntax.{named, w64}
 use mir.Val.{Val, vptr}
-use Rattle.rounds.specs.RoundEnd.{roundRows}
-use Rattle.runs.specs.Run.{answerOf, refused}
-use Rattle.refusals.specs.Numbers.{late}
-use Rattle.determination.specs.Record.{stateOf}
 use Rattle.determination.specs.declared.Run.{Run}
 use Rattle.determination.proofs.Thin.{Data, Good, signed, owned-of, opened, closed, calls-plain}
 use Rattle.tarski.specs.declared.FlatAnswered.{FlatAnswered}
-use Rattle.tarski.specs.Flat.{flatStepOf, flatAnsweredOf}
+use Rattle.tarski.specs.Flat.{AnswerGivesFlat}
 use Rattle.tarski.proofs.Lent.{RunD, AnsweredD, StepD, run-of, step-of}
 use Rattle.tarski.proofs.answered.Symbol.{name as #tarski·answered}
 use Rattle.tarski.proofs.tarski_answer.Key.{name as #tarski·tarski-answer}
@@ -58,7 +54,7 @@ NumD = signed w64
 
 -- what `answered` promises of its result
 abbrev Gives : Run → ℤ → FlatAnswered → Type 0
-Gives h z r = ((stateOf (r .run), r .step) ≡ flatAnsweredOf (answerOf roundRows (stateOf h) z)) × (r .step ≡ flatStepOf (refused late) → r .run ≡ h)
+Gives h z r = AnswerGivesFlat h z (r .run) (r .step)
 
 abbrev stayed : Stays (answer.ended .signature .params) (answer.ended .kept)
 stayed = (stay-ref (0 ∷ []) tt (plain (λ _. T.the-row)), (stay-none (λ _. i64) yes, tt))

@@ -6,13 +6,10 @@ use mathlib.Core.List.{[], _∷_, List}
 use Prim.Native.Nat.{ℕ}
 use mir.Syntax.{named, w64}
 use mir.Val.{Val, vptr}
-use Rattle.runs.specs.Run.{refused}
-use Rattle.determination.specs.Record.{stateOf, startedOf}
-use Rattle.refusals.specs.Numbers.{wrongCount}
 use Rattle.determination.specs.declared.Run.{Run}
 use Rattle.determination.proofs.Thin.{Data, Good, owned-of, opened, closed, calls-plain}
 use Rattle.tarski.specs.declared.FlatAnswered.{FlatAnswered}
-use Rattle.tarski.specs.Flat.{flatStepOf, flatAnsweredOf, keptOn}
+use Rattle.tarski.specs.Flat.{StartGivesFlat}
 use Rattle.tarski.proofs.Lent.{unsigned, RunD, AnsweredD, StepD, run-of, step-of}
 use Rattle.tarski.proofs.started.Symbol.{name as #tarski·started}
 use Rattle.tarski.proofs.tarski_start.Key.{name as #tarski·tarski-start}
@@ -56,7 +53,7 @@ NumD = unsigned w64
 
 -- what `started` promises of its result
 abbrev Gives : Run → ℕ → FlatAnswered → Type 0
-Gives h z r = ((stateOf (r .run), r .step) ≡ flatAnsweredOf (keptOn (stateOf h) (startedOf z))) × (r .step ≡ flatStepOf (refused wrongCount) → r .run ≡ h)
+Gives h z r = StartGivesFlat h z (r .run) (r .step)
 
 abbrev stayed : Stays (start.ended .signature .params) (start.ended .kept)
 stayed = (stay-ref (0 ∷ []) tt (plain (λ _. T.the-row)), (stay-none (λ _. usize) yes, tt))
