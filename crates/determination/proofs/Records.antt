@@ -13,10 +13,10 @@ use Rattle.refusals.specs.Limits.{mostPoints, mostPolynomials}
 use Rattle.signs.specs.Lists.{Below, isBelow}
 use Rattle.signs.proofs.Orders.{both-left, both-right, below-from, below-test}
 use Rattle.rounds.specs.RoundEnd.{roundRows}
-use Rattle.runs.specs.Run.{State, Step, refused, answerOf}
+use Rattle.runs.specs.Run.{State, Phase, running, finished, closed, Step, refused, answerOf}
 use Rattle.runs.proofs.Steps.{answer-finished, answer-closed, not-late}
 use Rattle.run_parts.specs.Parts.{inLimits}
-use Rattle.determination.specs.Record.{goes-on, is-done, mostAsked, isSound, isRunning, isDone, runningState, doneState, closedState, stateOf, AnswerGives}
+use Rattle.determination.specs.Record.{goes-on, is-done, mostAsked, isSound, isRunning, isDone, stateIn, runningState, runPhase, stateOf, AnswerGives}
 use Rattle.determination.specs.declared.Run.{Run}
 
 abbrev place : ℕ → ℕ → ℕ → ℕ → Bool
@@ -139,9 +139,14 @@ pub running-to : (r : Run) → r .phase ≡ goes-on → isSound r ≡ true → i
 unfolding isRunning
 running-to r p e = rw (eq-eqb (r .phase) goes-on p, e) refl
 
-pub running-is : (r : Run) → isRunning r ≡ true → stateOf r ≡ runningState r
+-- the phase gives what the record stands for
+phase-is : (r : Run) (f : Phase) → runPhase r ≡ f → stateOf r ≡ stateIn f r
 unfolding stateOf
-running-is r e = rw e refl
+phase-is r f e = rw e refl
+
+pub running-is : (r : Run) → isRunning r ≡ true → stateOf r ≡ runningState r
+unfolding runPhase
+running-is r e = phase-is r running (rw e refl)
 
 -- a record that is done
 pub done-phase : (r : Run) → isDone r ≡ true → (r .phase ≡ is-done) × (r .rows ≤ 64)
@@ -155,22 +160,20 @@ not-running : (r : Run) → (r .phase ≡ goes-on → ⊥) → isRunning r ≡ f
 unfolding isRunning
 not-running r h = rw (ne-eqb (r .phase) goes-on h) refl
 
-pub done-is : (r : Run) → isDone r ≡ true → stateOf r ≡ doneState r
-unfolding stateOf
-done-is r e =
-    let n = not-running r (λ z. omega (arith, z, done-phase r e .0)) in
-    rw (n, e) refl
+pub done-is : (r : Run) → isDone r ≡ true → stateOf r ≡ stateIn finished r
+unfolding runPhase
+done-is r e = phase-is r finished (rw (not-running r (λ z. omega (arith, z, done-phase r e .0)), e) refl)
 
 -- a record that is neither stands for a closed run
-pub closed-is : (r : Run) → isRunning r ≡ false → isDone r ≡ false → stateOf r ≡ closedState r
-unfolding stateOf
-closed-is r e f = rw (e, f) refl
+pub closed-is : (r : Run) → isRunning r ≡ false → isDone r ≡ false → stateOf r ≡ stateIn closed r
+unfolding runPhase
+closed-is r e f = phase-is r closed (rw (e, f) refl)
 
 not-done : (r : Run) → (r .phase ≡ is-done → ⊥) → isDone r ≡ false
 unfolding isDone
 not-done r h = rw (ne-eqb (r .phase) is-done h) refl
 
-pub closed-phase : (r : Run) → r .phase ≡ 2 → stateOf r ≡ closedState r
+pub closed-phase : (r : Run) → r .phase ≡ 2 → stateOf r ≡ stateIn closed r
 closed-phase r p = closed-is r (not-running r (λ z. omega (arith, z, p))) (not-done r (λ z. omega (arith, z, p)))
 
 -- ---- what an answer promises

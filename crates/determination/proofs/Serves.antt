@@ -1,4 +1,4 @@
--- What a record gives before any rule of the run is worked out: the number asked, a row, and all rows. Assumes nothing.
+-- What a record gives before any rule of the run is worked out: the number asked, a row, and all rows.
 use mathlib.Core.Path.{_≡_, refl, sym, _∙_}
 use mathlib.Core.Bool.{Bool, true, false, cond}
 use mathlib.Core.List.{List, _++_}
@@ -10,29 +10,25 @@ use lib.Seq.{length-take-le, getD-take}
 use Rattle.refusals.specs.Numbers.{late, pastLast, tooShort}
 use Rattle.rounds.specs.Rows.{Row, rowsWith}
 use Rattle.runs.specs.Run.{Phase, running, finished, closed, row, no-row, copied, kept, fetchOf, fetchRule, copyOf, copyRule}
-use Rattle.determination.specs.Record.{isRunning, isDone, runningState, doneState, closedState, stateOf}
+use Rattle.determination.specs.Record.{isRunning, isDone, stateIn, runPhase, stateOf}
 use Rattle.determination.specs.declared.Run.{Run}
+use Rattle.runs.proofs.Phases.{running-not-finished, closed-not-finished}
 use Rattle.runs.proofs.Held.{with-length, with-at, with-map-pattern, with-map-count}
 use Rattle.determination.proofs.Records.{done-is, done-phase}
 
 pub total-asked : (r : Run) → r .asked ≡ stateOf r .total
 unfolding stateOf
-total-asked r = go (isRunning r) (isDone r)
-  where
-    go : (b d : Bool) → r .asked ≡ cond b (runningState r) (cond d (doneState r) (closedState r)) .total
-    go true d = refl
-    go false true = refl
-    go false false = refl
+total-asked r = refl
 
 -- ---- no rows before done and after closed
 
 not-finished : (r : Run) → isDone r ≡ false → stateOf r .phase ≡ finished → ⊥
-unfolding stateOf
+unfolding stateOf runPhase
 not-finished r e = rw e (go (isRunning r))
   where
-    go : (b : Bool) → cond b (runningState r) (closedState r) .phase ≡ finished → ⊥
-    go true z = let x : _≡_ {A = ℕ} 0 1 = cc in omega arith
-    go false z = let x : _≡_ {A = ℕ} 0 1 = cc in omega arith
+    go : (b : Bool) → cond b running closed ≡ finished → ⊥
+    go true z = running-not-finished z
+    go false z = closed-not-finished z
 
 no-fetch : (f : Phase) (R : List Row) (p : ℕ) → (f ≡ finished → ⊥) → no-row late ≡ fetchRule f R p
 unfolding fetchRule
@@ -60,7 +56,7 @@ module _ (r : Run) (d : isDone r ≡ true) (P : length (r .patterns) ≡ 64) (C 
   few : r .rows ≤ 64
   few = done-phase r d .1
 
-  finished-is : stateOf r ≡ doneState r
+  finished-is : stateOf r ≡ stateIn finished r
   finished-is = done-is r d
 
   p-length : length (take (r .rows) (r .patterns)) ≡ r .rows

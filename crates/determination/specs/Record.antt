@@ -1,4 +1,4 @@
--- The run record of the code, and what it stands for in the rules of `Run`. Assumes nothing: these are definitions.
+-- The run record of the code, and what it stands for in the rules of `Run`.
 --
 --   stepOf, fetchedOf, copiedOf == what the code's calls give, in the rules' words, with document 01's numbers
 --   goes-on, is-done == the phase of a record whose run goes on, and of one whose run is done
@@ -6,9 +6,11 @@
 --   mostAsked        == a number above the questions of any such record
 --   isRunning run    == the test of a record whose run goes on
 --   isDone run       == the test of a record that is done: at most 64 rows
---   runningState, doneState, closedState == a record as one of a run that goes on, is done or is closed; a closed one holds no rows
---   stateOf run      == what the record stands for. A record may hold anything: one that no start and no answer could have left, so that it fails
---                       the test, stands for a closed run
+--   stateIn f run    == what the record stands for in the phase f: closed, it holds no rows, and only while the run goes on products and answers
+--   runningState run == the same of a run that goes on
+--   runPhase run     == the phase that the record stands for. A record may hold anything: one that no start and no answer could have left, so
+--                       that it fails the test, stands for a closed run
+--   stateOf run      == what the record stands for, in that phase
 --   withAnswer r z, lateOn r == the round's answers with one more, and what an answer after the end gives
 --   AnswerGives run a run′ step == what an answer a to the record run promises of the record run′ after it and of the step
 --   startedOf s      == the record that a start for s polynomials gives, and the step: 3 outside 1 .. 8
@@ -25,7 +27,7 @@ use Rattle.signs.specs.Lists.{isBelow}
 use Rattle.rounds.specs.Rows.{Row, rowsWith}
 use Rattle.rounds.specs.RoundEnd.{roundRows}
 use Rattle.run_parts.specs.Parts.{inLimits}
-use Rattle.runs.specs.Run.{State, running, finished, closed, Step, ask, done, refused, Fetch, row, no-row, Copied, copied, not-copied, startOf, answerOf}
+use Rattle.runs.specs.Run.{State, Phase, running, finished, closed, Step, ask, done, refused, Fetch, row, no-row, Copied, copied, not-copied, newIn, startOf, answerOf}
 use Rattle.determination.specs.declared.Run.{Run}
 use Rattle.determination.specs.declared.Answered.{Answered}
 use Rattle.determination.specs.declared.Fetched.{Fetched}
@@ -82,38 +84,38 @@ withAnswer r z = take (r .answered) (r .answers) ++ (z ∷ [])
 abbrev pub lateOn : Run → Answered
 lateOn r = record { run = r; step = steps.Refused late }
 
+-- what a record holds in some phases only
+abbrev pub unlessClosed : {A : Type 0} → Phase → List A → List A
+unlessClosed running l = l
+unlessClosed finished l = l
+unlessClosed closed l = []
+
+abbrev pub whileRunning : {A : Type 0} → Phase → List A → List A
+whileRunning running l = l
+whileRunning finished l = []
+whileRunning closed l = []
+
+abbrev pub stateIn : Phase → Run → State
+stateIn f r =
+    record {
+      polynomials = r .polynomials;
+      total = r .asked;
+      phase = f;
+      round = r .round;
+      n = r .points;
+      rows = unlessClosed f (rowsWith (take (r .rows) (r .patterns)) (take (r .rows) (r .counts)));
+      products = whileRunning f (take (r .rows) (r .products));
+      answers = whileRunning f (take (r .answered) (r .answers));
+    }
+
 abbrev pub runningState : Run → State
-runningState r =
-    record {
-      polynomials = r .polynomials;
-      total = r .asked;
-      phase = running;
-      round = r .round;
-      n = r .points;
-      rows = rowsWith (take (r .rows) (r .patterns)) (take (r .rows) (r .counts));
-      products = take (r .rows) (r .products);
-      answers = take (r .answered) (r .answers);
-    }
+runningState r = stateIn running r
 
-abbrev pub doneState : Run → State
-doneState r =
-    record {
-      polynomials = r .polynomials;
-      total = r .asked;
-      phase = finished;
-      round = r .round;
-      n = r .points;
-      rows = rowsWith (take (r .rows) (r .patterns)) (take (r .rows) (r .counts));
-      products = [];
-      answers = [];
-    }
-
-abbrev pub closedState : Run → State
-closedState r =
-    record { polynomials = r .polynomials; total = r .asked; phase = closed; round = r .round; n = r .points; rows = []; products = []; answers = [] }
+unfoldable pub runPhase : Run → Phase
+runPhase r = cond (isRunning r) running (cond (isDone r) finished closed)
 
 unfoldable pub stateOf : Run → State
-stateOf r = cond (isRunning r) (runningState r) (cond (isDone r) (doneState r) (closedState r))
+stateOf r = stateIn (runPhase r) r
 
 -- ---- an answer
 
@@ -126,7 +128,4 @@ pub record AnswerGives (run : Run) (a : ℤ) (run′ : Run) (step : Step) : Type
 -- ---- the start
 
 unfoldable pub startedOf : ℕ → State × Step
-startedOf s =
-    cond (leb 1 s && leb s mostPolynomials)
-    (startOf s, ask 0)
-    (record { polynomials = s; total = 0; phase = closed; round = 0; n = 0; rows = []; products = []; answers = [] }, refused wrongCount)
+startedOf s = cond (leb 1 s && leb s mostPolynomials) (startOf s, ask 0) (newIn closed s, refused wrongCount)

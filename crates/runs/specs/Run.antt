@@ -1,10 +1,12 @@
 -- The rules of a run (document 01, "The run"): what its record holds, and what the start, an answer, a row fetch and a copy of all rows give.
--- How a round's rows are found is a parameter N, so that demand 3 rests on `RightRows` of it alone. Assumes nothing: these are definitions.
+-- How a round's rows are found is a parameter N, so that demand 3 rests on `RightRows` of it alone.
 --
 --   Step         == what an answer gives: "the next product to ask, done, or closed with a refusal number"; 7 after done or closed
 --   Fetch        == what a row fetch gives: a row, or a refusal number
 --   Copy         == what a copy of all rows gives: how many rows, or a refusal number; and the two lent slices as they are left
 --   State        == the run record
+--   newIn f s    == a record for s polynomials in the phase f that has asked nothing
+--   afterAnswer  == the record after an answer that is taken, from its parts
 --   startOf s    == the record of a run for s polynomials before the first answer
 --   productAt i A k == the k-th product of round i + 1, A being the adapted list of the rows before it
 --   answerOf N r z  == the record after the answer z, and the step
@@ -57,8 +59,18 @@ pub record State : Type 0 where
   pub products : List ℕ  -- their adapted list, while the run goes on
   pub answers : List ℤ  -- those of this round so far
 
+-- a record before any answer
+abbrev pub newIn : Phase → ℕ → State
+newIn f s = record { polynomials = s; total = 0; phase = f; round = 0; n = 0; rows = []; products = []; answers = [] }
+
+-- the record r after an answer that is taken: one question more, in the phase f and the round i, with the first answer n, the rows R, their
+-- adapted list A and the round's answers ws
+abbrev pub afterAnswer : State → Phase → ℕ → ℕ → List Row → List ℕ → List ℤ → State
+afterAnswer r f i n R A ws =
+    record { polynomials = r .polynomials; total = suc (r .total); phase = f; round = i; n = n; rows = R; products = A; answers = ws }
+
 abbrev pub startOf : ℕ → State
-startOf s = record { polynomials = s; total = 0; phase = running; round = 0; n = 0; rows = []; products = []; answers = [] }
+startOf s = newIn running s
 
 -- ---- an answer
 
@@ -67,21 +79,14 @@ unfoldable pub productAt : ℕ → List ℕ → ℕ → ℕ
 productAt i A k = cond (ltb k (length A)) (getD A k 0 + 3 ^ i) (getD A (k - length A) 0 + 2 * 3 ^ i)
 
 module _ (N : ℕ → List Row → List ℤ → Option (List Row)) where
-  -- the record closed, with one more question and no rows
+  -- the record closed: no rows
   abbrev pub close : State → ℕ → State × Step
-  close r k = (
-    record { polynomials = r .polynomials; total = suc (r .total); phase = closed; round = r .round; n = r .n; rows = []; products = []; answers = [] },
-    refused k,
-  )
+  close r k = (afterAnswer r closed (r .round) (r .n) [] [] [], refused k)
 
   -- round i has ended with rows R, the first answer being n: the run is done, or the next round begins
   abbrev pub ended : State → ℕ → ℕ → List Row → Bool → State × Step
-  ended r i n R true =
-      (record { polynomials = r .polynomials; total = suc (r .total); phase = finished; round = i; n = n; rows = R; products = []; answers = [] }, done)
-  ended r i n R false = (
-    record { polynomials = r .polynomials; total = suc (r .total); phase = running; round = suc i; n = n; rows = R; products = adapted i (patterns R); answers = [] },
-    ask (productAt i (adapted i (patterns R)) 0),
-  )
+  ended r i n R true = (afterAnswer r finished i n R [] [], done)
+  ended r i n R false = let A = adapted i (patterns R) in (afterAnswer r running (suc i) n R A [], ask (productAt i A 0))
 
   abbrev pub endRound : State → ℕ → Option (List Row) → State × Step
   endRound r i none = close r noCounts
@@ -89,10 +94,7 @@ module _ (N : ℕ → List Row → List ℤ → Option (List Row)) where
 
   -- round i + 1 has the answers ws so far: it goes on, or it ends
   abbrev pub goOn : State → ℕ → List ℤ → Bool → State × Step
-  goOn r i ws true = (
-    record { polynomials = r .polynomials; total = suc (r .total); phase = running; round = suc i; n = r .n; rows = r .rows; products = r .products; answers = ws },
-    ask (productAt i (r .products) (length ws)),
-  )
+  goOn r i ws true = (afterAnswer r running (suc i) (r .n) (r .rows) (r .products) ws, ask (productAt i (r .products) (length ws)))
   goOn r i ws false = endRound r i (N i (r .rows) ws)
 
   -- the answer of round 0, and one of round i + 1
