@@ -1,5 +1,5 @@
 -- DEMAND 3 of the code: the five calls are known by their contracts alone (`Learnt`: what a call promises of its arguments, its result and what it
--- leaves in lent memory), so that a weaker promise of any of them breaks the theorem. Assumes nothing.
+-- leaves in lent memory), so that a weaker promise of any of them breaks the theorem.
 use mathlib.Core.Path.{_≡_, ap, ap₂, _∙_}
 use mathlib.Core.List.{List, _∷_}
 use Prim.Native.Nat.{ℕ, _≤_}

@@ -1,5 +1,5 @@
 -- Laws for the calls of the solver: what a call on a proper list leaves, that no polynomials may be taken for one, and that a round leaves at
--- most 64 rows. Assumes nothing.
+-- most 64 rows.
 use mathlib.Core.Path.{_≡_, refl, sym, ap, _∙_}
 use mathlib.Core.Bool.{Bool, true, false, cond, _&&_}
 use mathlib.Core.Logic.{_⊎_, inl, inr}
@@ -24,9 +24,9 @@ use Rattle.solver.specs.declared.Solved.{Solved as Answer}
 use Rattle.solver.specs.declared.Solved.the-variants.{Found, Refused}
 use Rattle.solutions.proofs.SolverRight.{some-same, solver-found, solver-refused}
 use Rattle.rounds.specs.Rows.{Row, patterns, counts, rowsWith}
-use Rattle.rounds.specs.Moments.{allFair, extendedRows, byMoments}
+use Rattle.rounds.specs.Moments.{allFair, extendedRows, judged, byMoments}
 use Rattle.rounds.specs.RoundEnd.{allPositive, sum, properRows, roundRows}
-use Rattle.round_end.specs.Steps.{Solved, judged}
+use Rattle.round_end.specs.Steps.{Solved}
 use Rattle.round_end.proofs.StepLaws.{patterns-rowsWith, length-rowsWith, extended-few}
 
 -- ---- one polynomial in place of none
@@ -169,7 +169,7 @@ solved-some (some vs) r ws S f = ap some (sym (S .1))
 module _ (i : ℕ) (P C : List ℕ) (ws : List ℤ) (h : length C ≡ length P) where
   moments-are : byMoments i (rowsWith P C) ws
       ≡ andThen (solverOf i P (take (length P) ws)) (λ es. andThen (solverOf i P (drop (length P) ws)) (λ gs. judged i (rowsWith P C) es gs))
-  unfolding byMoments judged
+  unfolding byMoments
   moments-are = rw (patterns-rowsWith P C h, length-rowsWith P C h) refl
 
   pub moments-first : solverOf i P (take (length P) ws) ≡ none → byMoments i (rowsWith P C) ws ≡ none
@@ -193,13 +193,14 @@ module _ (i : ℕ) (R R′ : List Row) (most : sum (counts R) ≤ mostPoints) wh
   few-judged es gs true t e = omega (arith, extended-few i R es gs t, ap length (some-same (extendedRows i R es gs) R′ e))
   few-judged es gs false t e = absurd (clash R′ e)
 
-  few-second : (es : List ℤ) (o : Option (List ℤ)) → andThen o (λ gs. cond (allFair R es gs) (some (extendedRows i R es gs)) none) ≡ some R′
+  few-second : (es : List ℤ) (o : Option (List ℤ)) → andThen o (λ gs. judged i R es gs) ≡ some R′
       → length R′ ≤ mostPoints
+  unfolding judged
   few-second es none e = absurd (clash R′ e)
   few-second es (some gs) e = few-judged es gs (allFair R es gs) refl e
 
   few-first : (o p : Option (List ℤ))
-      → andThen o (λ es. andThen p (λ gs. cond (allFair R es gs) (some (extendedRows i R es gs)) none)) ≡ some R′ → length R′ ≤ mostPoints
+      → andThen o (λ es. andThen p (λ gs. judged i R es gs)) ≡ some R′ → length R′ ≤ mostPoints
   few-first none p e = absurd (clash R′ e)
   few-first (some es) p e = few-second es p e
 

@@ -1,20 +1,21 @@
--- Laws for the loops of a round's end: a test and a list of rows from place k on, as one more element is passed. Assumes nothing.
+-- Laws for the loops of a round's end: a test and a list of rows from place k on, as one more element is passed.
 use mathlib.Core.Path.{_≡_, refl, sym, ap, _∙_}
 use mathlib.Core.Bool.{Bool, true, false, _&&_}
 use mathlib.Core.List.{List, [], _∷_, _++_}
 use Prim.Native.Nat.{ℕ, zero, suc, _+_, _*_, _-_, _^_, _≤_, _<_}
-use native.Mathlib.Nat.{mul-le-mul-right, zero-mul, one-mul, zero-add, add-zero, add-suc, suc-add}
+use native.Mathlib.Nat.{mul-le-mul-right, zero-mul, one-mul}
 use native.Mathlib.Numerals.{add-one}
 use native.Mathlib.Omega.{arith}
 use borrow.Author.Tests.{lt-ltb, le-ltb, le-leb, lt-leb, leb-true, leb-false}
 use lib.Dec.{leb, ltb}
 use lib.IntN.{ℤ, pos}
-use lib.ListN.{length, getD, take, drop, set, drop-of-length-le, length-append}
-use lib.Seq.{drop-cons, sets, sets-eq, take-at}
+use lib.ListN.{length, getD, take, drop, drop-of-length-le, length-append}
+use lib.Seq.{drop-cons, sets}
 use Rattle.refusals.specs.Limits.{mostPolynomials, mostPoints}
 use Rattle.integers.proofs.Parts.{same-test}
 use Rattle.signs.specs.Lists.{Below, isBelow, isRising}
 use Rattle.signs.proofs.Orders.{both-left, both-right, below-from}
+use Rattle.adapted.proofs.Stores.{sets-append, take-sets}
 use Rattle.rounds.specs.Rows.{Row, patterns, counts, rowsWith, rowIf}
 use Rattle.rounds.specs.Moments.{withZero, withPlus, withMinus, fair, allFair, thirds, extendedRows}
 use Rattle.rounds.specs.RoundEnd.{allPositive, sum, properRows}
@@ -200,13 +201,6 @@ extended-few i R es gs t =
     )
 
 -- ---- lists written one after the other
-
-pub sets-append : {A : Type 0} (xs ys l : List A) (i : ℕ) → sets l i (xs ++ ys) ≡ sets (sets l i xs) (i + length xs) ys
-sets-append [] ys l i = rw add-zero
-sets-append (x ∷ xs) ys l i = sets-append xs ys (set l i x) (suc i) ∙ rw (add-suc, suc-add)
-
-pub take-sets : {A : Type 0} (xs l : List A) (n : ℕ) → n ≡ length xs → n ≤ length l → take n (sets l 0 xs) ≡ xs
-take-sets xs l n e h = rw (sets-eq xs l 0 (omega (arith, zero-add (length xs)))) (take-at xs _ n (sym e))
 
 -- a list of rows T, of which A is written from k on and B is left
 pub put-length : (A B T : List Row) (k k′ : ℕ) → T ≡ A ++ B → k′ ≡ k + length A → k′ + length B ≡ k + length T

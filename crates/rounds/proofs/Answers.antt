@@ -1,4 +1,4 @@
--- What holds of the rows that the answers give: they fit all answers so far, and no other counts do. Assumes nothing.
+-- What holds of the rows that the answers give: they fit all answers so far, and no other counts do.
 use mathlib.Core.Path.{_≡_, refl, sym, ap, ap₂, _∙_}
 use mathlib.Core.Logic.{_⊎_, inl, inr}
 use mathlib.Core.List.{List, [], _∷_, _++_}

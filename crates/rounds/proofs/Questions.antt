@@ -1,5 +1,5 @@
 -- How many products a run asks: 1 + 2 × (r(0) + .. + r(s−1)) where r(i) is the number of rows after round i, at most 3^i and at most 64.
--- So with 8 polynomials it is at most 593. Assumes nothing.
+-- So with 8 polynomials it is at most 593.
 use mathlib.Core.Path.{_≡_, refl, sym, ap, _∙_, subst}
 use mathlib.Core.Logic.{_≢_}
 use mathlib.Core.Bool.{cond}

@@ -1,5 +1,4 @@
 -- Theorem: the end of a round is right. `roundRows` gives the rows after a round wherever there are some, and none where there are none.
--- Assumes nothing.
 use mathlib.Core.Path.{_≡_, refl, sym, _∙_}
 use mathlib.Core.Bool.{true, cond, _&&_}
 use mathlib.Core.Option.{Option, some, none}

@@ -1,4 +1,4 @@
--- What the end of a round must give, from the rows before it and the round's own answers. Assumes nothing: these are definitions.
+-- What the end of a round must give, from the rows before it and the round's own answers.
 --
 --   NextRows i R₀ ws R == R are the rows after round i + 1: they split the counts of R₀ by the sign of P(i+1), and give the round's answers ws
 --   RightRows N        == N gives such rows where there are some, and none where there are none (10), on rows of at most 64 points

@@ -1,4 +1,4 @@
--- The end of a round as a call makes it, whatever rows and answers it is given. Assumes nothing: these are definitions.
+-- The end of a round as a call makes it, whatever rows and answers it is given.
 --
 --   properRows i R   == the test that R are rows of P1 .. Pi as a round leaves them: patterns rising and below 3^i, counts above 0 that add up to at
 --                       most 64

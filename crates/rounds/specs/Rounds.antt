@@ -1,5 +1,5 @@
--- Rounds, rows and counts "as the answers give them above, not as the record holds them" (document 01, "The run"). Assumes nothing: these are
--- definitions. In all of them zs are answers and ps the products they answer, in order. Where document 01 says round i, here stands i + 1.
+-- Rounds, rows and counts "as the answers give them above, not as the record holds them" (document 01, "The run").
+-- In all of them zs are answers and ps the products they answer, in order. Where document 01 says round i, here stands i + 1.
 --
 --   roundOf i L            == the products of round i + 1 after rows with the patterns L: "every a in A with 3^(i−1) added, in order, then
 --                             every a with 2 × 3^(i−1) added", A being the adapted list of L

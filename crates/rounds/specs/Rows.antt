@@ -1,4 +1,4 @@
--- Rows, oracles and the realized list (document 01, "The run", and demand 3). Assumes nothing: these are definitions.
+-- Rows, oracles and the realized list (document 01, "The run", and demand 3).
 --
 --   Row                       == a pattern with its count
 --   patterns R, counts R      == the rows' patterns, and their counts

@@ -1,4 +1,4 @@
--- The parts of a run that need no record. Assumes nothing: these are definitions.
+-- The parts of a run that need no record.
 --
 --   inLimits s asked round points rows answered == the test of a running record's numbers: 1 to 8 polynomials, a round of theirs, at most 64
 --                       points and rows, fewer answers than the round has products, and no more questions than such rounds can have had

@@ -1,7 +1,7 @@
 -- From the rules to code: a chain of calls each of which keeps its contract is a run by the rules, so demand 3 holds of it.
 -- C is the code's record, `view` reads a record of the rules out of it, and Starts, Answers, Fetches, Copies are what the four contracts ensure:
 -- Starts s c x that a start for s gives the record c and the step x, Answers c z c′ x that the answer z to the record c leaves c′ and gives x,
--- and so on. Assumes nothing.
+-- and so on.
 use mathlib.Core.Path.{_≡_, refl, ap, ap₂, _∙_}
 use mathlib.Core.List.{List, [], _∷_}
 use Prim.Native.Nat.{ℕ, _≤_}

@@ -1,4 +1,4 @@
--- DEMAND 3, proved: the claim holds after every list of calls on one run, for every number s of polynomials from 1 on. Assumes nothing.
+-- DEMAND 3, proved: the claim holds after every list of calls on one run, for every number s of polynomials from 1 on.
 use mathlib.Core.Path.{_≡_, refl, sym, ap, _∙_, subst}
 use mathlib.Core.Logic.{_≢_, _⊎_, inl, inr, _↔_}
 use mathlib.Core.Option.{Option}

@@ -1,4 +1,4 @@
--- The rows after a round: patterns of one polynomial more, rising, and some where there were some. Assumes nothing.
+-- The rows after a round: patterns of one polynomial more, rising, and some where there were some.
 use mathlib.Core.Path.{_≡_, refl, sym, _∙_}
 use mathlib.Core.Bool.{Bool, true, false, cond, _&&_}
 use mathlib.Core.Option.{Option, some, none}

@@ -1,5 +1,4 @@
 -- Rows that stand in two lists, one of patterns and one of counts: their number, their elements, and rows taken apart and put together.
--- Assumes nothing.
 use mathlib.Core.Path.{_≡_, refl, ap}
 use mathlib.Core.List.{List, [], _∷_, map}
 use Prim.Native.Nat.{ℕ, zero, suc, _<_}

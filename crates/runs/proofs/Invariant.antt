@@ -1,4 +1,4 @@
--- What holds of the record after every call: the invariant of a run, and that an answer keeps it. Assumes nothing.
+-- What holds of the record after every call: the invariant of a run, and that an answer keeps it.
 use mathlib.Core.Path.{_≡_, refl, sym, ap, _∙_, subst}
 use mathlib.Core.Logic.{_≢_, _⊎_, inl, inr}
 use mathlib.Core.Bool.{Bool, true, false, cond}

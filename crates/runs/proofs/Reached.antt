@@ -1,4 +1,4 @@
--- Theorem: what every record holds that calls reach from a start. Assumes nothing.
+-- Theorem: what every record holds that calls reach from a start.
 use mathlib.Core.Path.{_≡_, refl, sym, ap, _∙_, subst}
 use mathlib.Core.List.{List, [], _∷_}
 use Prim.Native.Nat.{ℕ, zero, suc, _+_, _*_, _<_, _≤_}

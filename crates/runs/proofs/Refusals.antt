@@ -1,4 +1,4 @@
--- Theorem: each refusal number of a run is given for its cause and no other, for every record. Assumes nothing.
+-- Theorem: each refusal number of a run is given for its cause and no other, for every record.
 use mathlib.Core.Path.{_≡_, refl, sym, ap, _∙_, subst}
 use mathlib.Core.Logic.{_≢_, _⊎_, inl, inr, _↔_}
 use mathlib.Core.Bool.{Bool, true, false, cond}

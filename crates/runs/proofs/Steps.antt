@@ -1,4 +1,4 @@
--- The rules of an answer, by the tests that the code makes. Assumes nothing.
+-- The rules of an answer, by the tests that the code makes.
 use mathlib.Core.Path.{_≡_, refl, sym, ap, _∙_, subst}
 use mathlib.Core.Bool.{Bool, true, false, cond}
 use mathlib.Core.Option.{Option, some, none}

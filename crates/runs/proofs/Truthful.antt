@@ -1,4 +1,4 @@
--- Theorem: an oracle that answers truthfully throughout always ends done, and the rows are its realized list. Assumes nothing.
+-- Theorem: an oracle that answers truthfully throughout always ends done, and the rows are its realized list.
 use mathlib.Core.Path.{_≡_, refl, sym, ap, subst}
 use mathlib.Core.Option.{Option}
 use mathlib.Core.List.{List, [], _∷_, _++_, append-nil}

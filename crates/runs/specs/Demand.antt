@@ -1,4 +1,4 @@
--- Demand 3, "Key", as one statement over every list of calls on one run (document 01, "The words of demand 3"). Assumes nothing: these are definitions.
+-- Demand 3, "Key", as one statement over every list of calls on one run (document 01, "The words of demand 3").
 --
 --   Call, Event      == an answer, a row fetch or a copy of all rows; the call with what it gave
 --   play, events     == the record and the events after a list of calls: "each call gets the record as the start or the call before left it"

@@ -1,4 +1,4 @@
--- What every record holds that calls reach from a start: bounds that a test of a record may ask for. Assumes nothing: these are definitions.
+-- What every record holds that calls reach from a start: bounds that a test of a record may ask for.
 --
 --   InRound r i == of a record in round i + 1
 --   Reached s r == of a record in any phase; before the first answer it is as the start left it

@@ -1,5 +1,5 @@
 -- The lines of document 01's table "Cause, and what the caller gets" that concern a run, for every record, also one that no call could have left:
--- "Each number is given for its cause and no other." Assumes nothing: these are definitions.
+-- "Each number is given for its cause and no other."
 --
 --   OutOfFirst z == z is no first answer: below 0 or above 64
 --   Shut r r′    == r′ is r closed: it has one more question and no rows

@@ -1,4 +1,4 @@
--- The run of an oracle that "truthfully answers each product asked" (demand 3). Assumes nothing: these are definitions.
+-- The run of an oracle that "truthfully answers each product asked" (demand 3).
 --
 --   truthful N s E k r α == the answers of the oracle E from the record r, which has asked the product α: k of them, or fewer where a step
 --                           asks nothing more

@@ -1,4 +1,4 @@
--- `run_parts::find_rows` meets its contract: the parts are made, and passed on. Assumes nothing.
+-- `run_parts::find_rows` meets its contract: the parts are made, and passed on.
 use mathlib.Core.List.{List, [], _∷_, _++_}
 use mathlib.Core.Path.{_≡_, sym, _∙_}
 use Prim.Native.Nat.{ℕ, _+_, _<_}

@@ -1,4 +1,4 @@
--- `run_parts::product_at` meets its contract. Assumes nothing.
+-- `run_parts::product_at` meets its contract.
 use mathlib.Core.Path.{_≡_, refl}
 use Prim.Native.Nat.{ℕ, _-_, _^_, _≤_, _<_}
 use native.Mathlib.Omega.{arith}
