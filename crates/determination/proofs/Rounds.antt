@@ -10,7 +10,7 @@ use lib.IntN.{ℤ, pos, negsuc, natAbs}
 use lib.ListN.{length, take, set, length-append, length-take}
 use mir.Syntax.{w8}
 use mir.Val.{SFits}
-use lib.Seq.{length-take-le, take-suc-set}
+use lib.Seq.{length-take-le}
 use Rattle.signs.specs.Lists.{Below}
 use Rattle.signs.specs.Adapted.{adapted}
 use Rattle.signs.proofs.Blocks.{adapted-below}
@@ -24,7 +24,7 @@ use Rattle.run_parts.specs.Parts.{heldRows}
 use Rattle.run_parts.specs.declared.Rows.{Rows}
 use Rattle.determination.specs.Record.{goes-on, isSound, isRunning, runningState, stateOf}
 use Rattle.determination.specs.declared.Run.{Run}
-use Rattle.runs.proofs.Held.{with-patterns, with-own, below-all}
+use Rattle.runs.proofs.Held.{with-patterns, with-own, stored, below-all}
 use Rattle.determination.proofs.Lengths.{Lengths}
 use Rattle.determination.proofs.Records.{later-from, sound-below, sound-to, limits-to, running-is, running-to, running-phase, running-sound}
 use Rattle.round_end.specs.declared.Next.the-variants as next
@@ -53,10 +53,7 @@ pub narrow : (z : ℤ) → natAbs z ≤ 64 → SFits w8 z
 narrow (pos n) h = record { sfits = omega (arith, h) }
 narrow (negsuc n) h = record { sfits = omega (arith, h) }
 
--- the answers with one more, as the code stores it
-pub stored : (l : List ℤ) (k : ℕ) (z : ℤ) → k < length l → take (k + 1) (set l k z) ≡ take k l ++ (z ∷ [])
-stored l k z h = rw (add-one k) (take-suc-set l k z h)
-
+-- the answers with one more
 pub stored-length : (l : List ℤ) (k : ℕ) (z : ℤ) → k ≤ length l → length (take k l ++ (z ∷ [])) ≡ k + 1
 stored-length l k z h = omega (arith, length-append (take k l) (z ∷ []), length-take-le k l h)
 
