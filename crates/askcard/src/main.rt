@@ -4,9 +4,10 @@
 use libc::STDIN_FILENO;
 use libc::STDOUT_FILENO;
 use lines::Line;
+use refusals::LONGEST_CARD;
 
-// More bytes than the longest card has, 318, so that one that is too long is refused as such.
-const MOST_READ: usize = 320;
+// More bytes than the longest card has, so that one that is too long is refused as such.
+const MOST_READ: usize = LONGEST_CARD + 2;
 
 // Writes a line, and says whether there may be another: not after the empty line, nor where the write failed.
 fn write_line(line: Line) -> bool {
@@ -23,16 +24,16 @@ fn write_line(line: Line) -> bool {
 
 // Writes the printout of a card, line by line.
 fn write_printout(card: &[u8]) {
-    let mut play = printout::begin(card);
+    let mut progress = printout::begin(card);
     let mut k = 0;
     while k < printout::MOST_LINES {
-        let next = printout::next_line(play);
+        let next = printout::next_line(progress);
         let line = next.line;
         if !write_line(line) {
             return;
         }
-        let after = next.play;
-        play = after;
+        let after = next.progress;
+        progress = after;
         k += 1;
     }
 }

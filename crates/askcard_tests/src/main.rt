@@ -1,10 +1,8 @@
 // Reads the cards of the file that the first argument names, each after its length in two bytes, and writes the printout of each, then what a slice of
 // one byte gets: `X`, the number that refuses it and the byte, as it was.
 use libc::STDOUT_FILENO;
+use printout::MOST_TEXT;
 use printout::Written;
-
-// More room than any printout takes.
-const ROOM: usize = 21056;
 
 fn put(b: u8) {
     io::write_all(STDOUT_FILENO, &[b]);
@@ -16,10 +14,10 @@ fn print_number(n: u64) {
 }
 
 fn print_whole(card: &[u8]) {
-    let mut out = [0u8; ROOM];
+    let mut out = [0u8; MOST_TEXT];
     match printout::printout(card, &mut out) {
         Written::Bytes(n) => {
-            if n <= ROOM {
+            if n <= MOST_TEXT {
                 io::write_all(STDOUT_FILENO, &out[..n]);
             }
         }

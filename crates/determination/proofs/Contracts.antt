@@ -1,5 +1,5 @@
--- DEMAND 3 of the code: the four calls are known by their contracts alone (`Learnt`: what a call promises of its arguments, its result and what it
--- leaves in lent memory), so that a weaker promise of any of them breaks the theorem. Assumes nothing.
+-- DEMAND 3 of the code: the five calls are known by their contracts alone (`Learnt`: what a call promises of its arguments, its result and what it
+-- leaves in lent memory), so that a weaker promise of any of them breaks the theorem.
 use mathlib.Core.Path.{_≡_, ap, ap₂, _∙_}
 use mathlib.Core.List.{List, _∷_}
 use Prim.Native.Nat.{ℕ, _≤_}
@@ -7,7 +7,7 @@ use borrow.Author.Tests.{le-leb}
 use lib.IntN.{ℤ}
 use contract.Lifetimes.{Lfts}
 use denote.Ref.{RefT, now}
-use Rattle.rounds.specs.Rows.{maxPolynomials}
+use Rattle.refusals.specs.Limits.{mostPolynomials}
 use Rattle.rounds.specs.RoundEnd.{roundRows}
 use Rattle.determination.specs.declared.Run.{Run}
 use Rattle.determination.specs.declared.Answered.{Answered}
@@ -41,16 +41,16 @@ pub record Fetches (c : Run) (p : ℕ) (x : Fetch) : Type 0 where
   pub kept : fetch.Learnt tt (c, (p, tt)) result (c, (p, tt))
   pub gave : x ≡ fetchedOf result
 
-keeps-starts : (s : ℕ) (c : Run) (x : Step) → 1 ≤ s → s ≤ maxPolynomials → Started s c x → (stateOf c ≡ startOf s) × (x ≡ ask 0)
+keeps-starts : (s : ℕ) (c : Run) (x : Step) → 1 ≤ s → s ≤ mostPolynomials → Started s c x → (stateOf c ≡ startOf s) × (x ≡ ask 0)
 unfolding startedOf
 keeps-starts s c x h m u =
-    let e : _≡_ {A = State × Step} (stateOf (u .result .run), stepOf (u .result .step)) (startOf s, ask 0) = (rw (le-leb 1 s h, le-leb s maxPolynomials m) at (u .kept)) in
+    let e : _≡_ {A = State × Step} (stateOf (u .result .run), stepOf (u .result .step)) (startOf s, ask 0) = (rw (le-leb 1 s h, le-leb s mostPolynomials m) at (u .kept)) in
     (ap stateOf (u .left) ∙ ap (λ (p : State × Step). p .0) e, u .gave ∙ ap (λ (p : State × Step). p .1) e)
 
 keeps-answers : (c : Run) (z : ℤ) (c′ : Run) (x : Step) → Took c z c′ x
     → (stateOf c′ ≡ answerOf roundRows (stateOf c) z .0) × (x ≡ answerOf roundRows (stateOf c) z .1)
 keeps-answers c z c′ x u =
-    (ap stateOf (u .left) ∙ ap (λ (p : State × Step). p .0) (u .kept .0), u .gave ∙ ap (λ (p : State × Step). p .1) (u .kept .0))
+    (ap stateOf (u .left) ∙ ap (λ (p : State × Step). p .0) (u .kept .by-rules), u .gave ∙ ap (λ (p : State × Step). p .1) (u .kept .by-rules))
 
 keeps-fetches : (c : Run) (p : ℕ) (x : Fetch) → Fetches c p x → x ≡ fetchOf (stateOf c) p
 keeps-fetches c p x u = u .gave ∙ u .kept
@@ -80,7 +80,7 @@ abbrev pub Calls : ℕ → List Call → List Event → Run → Type 0
 Calls s cs t d = FromStart Run stateOf Started Took Fetches Copies s cs t d
 
 -- DEMAND 3: after every such list, with the question total that the run reports
-pub demand3-code : (s : ℕ) → 1 ≤ s → s ≤ maxPolynomials → (cs : List Call) (t : List Event) (d : Run) → Calls s cs t d
+pub demand3-code : (s : ℕ) → 1 ≤ s → s ≤ mostPolynomials → (cs : List Call) (t : List Event) (d : Run) → Calls s cs t d
     → (total : ℕ) → asked.Learnt tt (d, tt) total (d, tt)
     → Claim s (0 ∷ given running t) (taken running t) (phaseOf running t) total t
 demand3-code s h m cs t d u total e = rw e (demand3-chain Run stateOf Started Took Fetches Copies kept s h m u)

@@ -1,4 +1,4 @@
--- The lengths of a record's arrays, from what owning it tells. Assumes nothing.
+-- The lengths of a record's arrays, from what owning it tells.
 use mathlib.Core.Path.{_≡_, sym, _∙_}
 use lib.ListN.{length, length-map}
 use Rattle.determination.specs.declared.Run.{Run}

@@ -1,8 +1,6 @@
--- The tests of a record: what they say, what passes them, and what the record stands for then. Assumes nothing.
-use mathlib.Core.Path.{_≡_, refl, sym, ap}
+-- The tests of a record: what they say, what passes them, and what the record stands for then.
+use mathlib.Core.Path.{_≡_, refl, sym, ap, _∙_}
 use mathlib.Core.Bool.{Bool, true, false, cond, _&&_}
-use mathlib.Core.Option.{Option}
-use mathlib.Core.List.{List}
 use Prim.Native.Nat.{ℕ, _+_, _*_, _-_, _^_, _≤_, _<_}
 use native.Mathlib.Decide.{ℕ-discrete}
 use native.Mathlib.Omega.{arith}
@@ -10,13 +8,15 @@ use borrow.Author.Tests.{ltb-true, leb-true, eqb-true, lt-ltb, le-leb, eq-eqb, n
 use lib.Dec.{eqb, leb, ltb}
 use lib.IntN.{ℤ}
 use lib.ListN.{take}
+use Rattle.refusals.specs.Numbers.{late}
+use Rattle.refusals.specs.Limits.{mostPoints, mostPolynomials}
 use Rattle.signs.specs.Lists.{Below, isBelow}
 use Rattle.signs.proofs.Orders.{both-left, both-right, below-from, below-test}
-use Rattle.rounds.specs.Rows.{maxPoints, maxPolynomials, Row}
-use Rattle.runs.specs.Run.{State, refused, late, answerOf}
-use Rattle.runs.proofs.Steps.{answer-finished, answer-closed}
+use Rattle.rounds.specs.RoundEnd.{roundRows}
+use Rattle.runs.specs.Run.{State, Phase, running, finished, closed, Step, refused, answerOf}
+use Rattle.runs.proofs.Steps.{answer-finished, answer-closed, not-late}
 use Rattle.run_parts.specs.Parts.{inLimits}
-use Rattle.determination.specs.Record.{goes-on, is-done, mostAsked, isSound, isRunning, isDone, runningState, doneState, closedState, stateOf}
+use Rattle.determination.specs.Record.{goes-on, is-done, mostAsked, isSound, isRunning, isDone, stateIn, runningState, runPhase, stateOf, AnswerGives}
 use Rattle.determination.specs.declared.Run.{Run}
 
 abbrev place : ℕ → ℕ → ℕ → ℕ → Bool
@@ -55,16 +55,16 @@ pub limits-from : (s asked round points rows answered : ℕ) → inLimits s aske
 unfolding inLimits
 limits-from s asked round points rows answered e =
     let e₁ = both-right (leb 1 s) _ e in
-    let e₂ = both-right (leb s maxPolynomials) _ e₁ in
+    let e₂ = both-right (leb s mostPolynomials) _ e₁ in
     let e₃ = both-right (leb round s) _ e₂ in
-    let e₄ = both-right (leb points maxPoints) _ e₃ in
-    let e₅ = both-right (leb rows maxPoints) _ e₄ in
+    let e₄ = both-right (leb points mostPoints) _ e₃ in
+    let e₅ = both-right (leb rows mostPoints) _ e₄ in
     record {
       least = leb-true 1 s (both-left (leb 1 s) _ e);
-      most = leb-true s 8 (both-left (leb s maxPolynomials) _ e₁);
+      most = leb-true s 8 (both-left (leb s mostPolynomials) _ e₁);
       rounds = leb-true round s (both-left (leb round s) _ e₂);
-      few-points = leb-true points 64 (both-left (leb points maxPoints) _ e₃);
-      few-rows = leb-true rows 64 (both-left (leb rows maxPoints) _ e₄);
+      few-points = leb-true points 64 (both-left (leb points mostPoints) _ e₃);
+      few-rows = leb-true rows 64 (both-left (leb rows mostPoints) _ e₄);
       at-first = λ h. place-first asked round rows answered h e₅ .0;
       at-later = λ h. place-later asked round rows answered h e₅ .0;
       few-asked = place-asked asked round rows answered e₅;
@@ -139,48 +139,60 @@ pub running-to : (r : Run) → r .phase ≡ goes-on → isSound r ≡ true → i
 unfolding isRunning
 running-to r p e = rw (eq-eqb (r .phase) goes-on p, e) refl
 
-pub running-is : (r : Run) → isRunning r ≡ true → stateOf r ≡ runningState r
+-- the phase gives what the record stands for
+phase-is : (r : Run) (f : Phase) → runPhase r ≡ f → stateOf r ≡ stateIn f r
 unfolding stateOf
-running-is r e = rw e refl
+phase-is r f e = rw e refl
+
+pub running-is : (r : Run) → isRunning r ≡ true → stateOf r ≡ runningState r
+unfolding runPhase
+running-is r e = phase-is r running (rw e refl)
 
 -- a record that is done
 pub done-phase : (r : Run) → isDone r ≡ true → (r .phase ≡ is-done) × (r .rows ≤ 64)
 unfolding isDone
 done-phase r e = (
-  eqb-true (r .phase) is-done (both-left (eqb (r .phase) is-done) (leb (r .rows) maxPoints) e),
-  leb-true (r .rows) 64 (both-right (eqb (r .phase) is-done) (leb (r .rows) maxPoints) e),
+  eqb-true (r .phase) is-done (both-left (eqb (r .phase) is-done) (leb (r .rows) mostPoints) e),
+  leb-true (r .rows) 64 (both-right (eqb (r .phase) is-done) (leb (r .rows) mostPoints) e),
 )
 
 not-running : (r : Run) → (r .phase ≡ goes-on → ⊥) → isRunning r ≡ false
 unfolding isRunning
 not-running r h = rw (ne-eqb (r .phase) goes-on h) refl
 
-pub done-is : (r : Run) → isDone r ≡ true → stateOf r ≡ doneState r
-unfolding stateOf
-done-is r e =
-    let n = not-running r (λ z. omega (arith, z, done-phase r e .0)) in
-    rw (n, e) refl
+pub done-is : (r : Run) → isDone r ≡ true → stateOf r ≡ stateIn finished r
+unfolding runPhase
+done-is r e = phase-is r finished (rw (not-running r (λ z. omega (arith, z, done-phase r e .0)), e) refl)
 
 -- a record that is neither stands for a closed run
-pub closed-is : (r : Run) → isRunning r ≡ false → isDone r ≡ false → stateOf r ≡ closedState r
-unfolding stateOf
-closed-is r e f = rw (e, f) refl
+pub closed-is : (r : Run) → isRunning r ≡ false → isDone r ≡ false → stateOf r ≡ stateIn closed r
+unfolding runPhase
+closed-is r e f = phase-is r closed (rw (e, f) refl)
 
 not-done : (r : Run) → (r .phase ≡ is-done → ⊥) → isDone r ≡ false
 unfolding isDone
 not-done r h = rw (ne-eqb (r .phase) is-done h) refl
 
-pub closed-phase : (r : Run) → r .phase ≡ 2 → stateOf r ≡ closedState r
+pub closed-phase : (r : Run) → r .phase ≡ 2 → stateOf r ≡ stateIn closed r
 closed-phase r p = closed-is r (not-running r (λ z. omega (arith, z, p))) (not-done r (λ z. omega (arith, z, p)))
 
--- an answer to a run that does not go on
-pub answer-late : (N : ℕ → List Row → List ℤ → Option (List Row)) (r : Run) (a : ℤ) → isRunning r ≡ false
-    → answerOf N (stateOf r) a ≡ (stateOf r, refused late)
-answer-late N r a e = go (isDone r) refl
+-- ---- what an answer promises
+
+-- of a run that goes on: the rules never refuse it with 7
+pub running-gives : (r r′ : Run) (z : ℤ) (x : Step) → isRunning r ≡ true → (stateOf r′, x) ≡ answerOf roundRows (runningState r) z → AnswerGives r z r′ x
+running-gives r r′ z x e h =
+    record {
+      by-rules = rw (running-is r e) h;
+      as-it-was = λ l. absurd (not-late roundRows (runningState r) z refl (sym (ap (λ (o : State × Step). o .1) h) ∙ l));
+    }
+
+-- of any other
+pub late-gives : (r : Run) (z : ℤ) → isRunning r ≡ false → AnswerGives r z r (refused late)
+late-gives r z e = record { by-rules = sym (go (isDone r) refl); as-it-was = λ _. refl }
   where
-    go : (b : Bool) → isDone r ≡ b → answerOf N (stateOf r) a ≡ (stateOf r, refused late)
-    go true d = answer-finished N (stateOf r) a (ap (λ (s : State). s .phase) (done-is r d))
-    go false d = answer-closed N (stateOf r) a (ap (λ (s : State). s .phase) (closed-is r e d))
+    go : (b : Bool) → isDone r ≡ b → answerOf roundRows (stateOf r) z ≡ (stateOf r, refused late)
+    go true d = answer-finished roundRows (stateOf r) z (ap (λ (s : State). s .phase) (done-is r d))
+    go false d = answer-closed roundRows (stateOf r) z (ap (λ (s : State). s .phase) (closed-is r e d))
 
 -- ---- what the code knows of a record
 

@@ -1,4 +1,4 @@
--- The record as the code writes it stands for what the rules give: a round goes on, ends, and the next one begins. Assumes nothing.
+-- The record as the code writes it stands for what the rules give: a round goes on, ends, and the next one begins.
 use mathlib.Core.Path.{_≡_, refl, sym, ap, _∙_, subst}
 use mathlib.Core.Bool.{true, false}
 use mathlib.Core.Option.{Option, some, none}
@@ -10,7 +10,7 @@ use lib.IntN.{ℤ, pos, negsuc, natAbs}
 use lib.ListN.{length, take, set, length-append, length-take}
 use mir.Syntax.{w8}
 use mir.Val.{SFits}
-use lib.Seq.{length-take-le, take-suc-set}
+use lib.Seq.{length-take-le}
 use Rattle.signs.specs.Lists.{Below}
 use Rattle.signs.specs.Adapted.{adapted}
 use Rattle.signs.proofs.Blocks.{adapted-below}
@@ -24,10 +24,27 @@ use Rattle.run_parts.specs.Parts.{heldRows}
 use Rattle.run_parts.specs.declared.Rows.{Rows}
 use Rattle.determination.specs.Record.{goes-on, isSound, isRunning, runningState, stateOf}
 use Rattle.determination.specs.declared.Run.{Run}
-use Rattle.runs.proofs.Held.{with-patterns, with-own, below-all}
+use Rattle.runs.proofs.Held.{with-patterns, with-own, stored, below-all}
 use Rattle.determination.proofs.Lengths.{Lengths}
 use Rattle.determination.proofs.Records.{later-from, sound-below, sound-to, limits-to, running-is, running-to, running-phase, running-sound}
 use Rattle.round_end.specs.declared.Next.the-variants as next
+
+-- a record as the code leaves it after an answer to a run that goes on
+abbrev counted : Run → ℕ → ℕ → Rows → List ℕ → ℕ → List ℤ → Run
+counted r round points h products answered answers =
+    record {
+      polynomials = r .polynomials;
+      asked = r .asked + 1;
+      phase = r .phase;
+      round = round;
+      points = points;
+      rows = h .number;
+      patterns = h .patterns;
+      counts = h .counts;
+      products = products;
+      answered = answered;
+      answers = answers;
+    }
 
 -- ---- the round goes on
 
@@ -36,28 +53,14 @@ pub narrow : (z : ℤ) → natAbs z ≤ 64 → SFits w8 z
 narrow (pos n) h = record { sfits = omega (arith, h) }
 narrow (negsuc n) h = record { sfits = omega (arith, h) }
 
--- the answers with one more, as the code stores it
-pub stored : (l : List ℤ) (k : ℕ) (z : ℤ) → k < length l → take (k + 1) (set l k z) ≡ take k l ++ (z ∷ [])
-stored l k z h = rw (add-one k) (take-suc-set l k z h)
-
+-- the answers with one more
 pub stored-length : (l : List ℤ) (k : ℕ) (z : ℤ) → k ≤ length l → length (take k l ++ (z ∷ [])) ≡ k + 1
 stored-length l k z h = omega (arith, length-append (take k l) (z ∷ []), length-take-le k l h)
 
 abbrev wentOn : Run → ℤ → Run
 wentOn r a =
-    record {
-      polynomials = r .polynomials;
-      asked = r .asked + 1;
-      phase = r .phase;
-      round = r .round;
-      points = r .points;
-      rows = r .rows;
-      patterns = r .patterns;
-      counts = r .counts;
-      products = r .products;
-      answered = r .answered + 1;
-      answers = set (r .answers) (r .answered) a;
-    }
+    counted r (r .round) (r .points) (record { number = r .rows; patterns = r .patterns; counts = r .counts }) (r .products) (r .answered + 1)
+    (set (r .answers) (r .answered) a)
 
 module _ (r : Run) (a : ℤ) (n : Lengths r) (e : isRunning r ≡ true) (later : 0 < r .round) (more : r .answered + 1 < 2 * r .rows) where
   went-sound : isSound (wentOn r a) ≡ true
@@ -83,20 +86,7 @@ module _ (r : Run) (a : ℤ) (n : Lengths r) (e : isRunning r ≡ true) (later :
 -- ---- the next round begins
 
 abbrev begunRun : Run → ℕ → ℕ → Rows → List ℕ → Run
-begunRun r i points h products =
-    record {
-      polynomials = r .polynomials;
-      asked = r .asked + 1;
-      phase = r .phase;
-      round = i + 1;
-      points = points;
-      rows = h .number;
-      patterns = h .patterns;
-      counts = h .counts;
-      products = products;
-      answered = 0;
-      answers = r .answers;
-    }
+begunRun r i points h products = counted r (i + 1) points h products 0 (r .answers)
 
 module _ (r : Run) (i points : ℕ) (h : Rows) (A : List ℕ) (P : length (h .patterns) ≡ 64) (C : length (h .counts) ≡ 64) (going : r .phase ≡ goes-on) (before : i < r .polynomials)
     (most : r .polynomials ≤ 8) (few-points : points ≤ 64) (few-asked : r .asked < 128 * suc i) (some-rows : 0 < h .number) (few-rows : h .number ≤ 64)

@@ -1,4 +1,4 @@
--- What a record gives before any rule of the run is worked out: the number asked, a row, and all rows. Assumes nothing.
+-- What a record gives before any rule of the run is worked out: the number asked, a row, and all rows.
 use mathlib.Core.Path.{_≡_, refl, sym, _∙_}
 use mathlib.Core.Bool.{Bool, true, false, cond}
 use mathlib.Core.List.{List, _++_}
@@ -7,31 +7,28 @@ use native.Mathlib.Omega.{arith}
 use borrow.Author.Tests.{lt-ltb, le-ltb, le-leb, lt-leb}
 use lib.ListN.{length, getD, take, drop}
 use lib.Seq.{length-take-le, getD-take}
+use Rattle.refusals.specs.Numbers.{late, pastLast, tooShort}
 use Rattle.rounds.specs.Rows.{Row, rowsWith}
-use Rattle.runs.specs.Run.{Phase, running, finished, closed, row, no-row, copied, kept, fetchOf, fetchRule, copyOf, copyRule, late, past-last, too-short}
-use Rattle.determination.specs.Record.{isRunning, isDone, runningState, doneState, closedState, stateOf}
+use Rattle.runs.specs.Run.{Phase, running, finished, closed, row, no-row, copied, kept, fetchOf, fetchRule, copyOf, copyRule}
+use Rattle.determination.specs.Record.{isRunning, isDone, stateIn, runPhase, stateOf}
 use Rattle.determination.specs.declared.Run.{Run}
+use Rattle.runs.proofs.Phases.{running-not-finished, closed-not-finished}
 use Rattle.runs.proofs.Held.{with-length, with-at, with-map-pattern, with-map-count}
 use Rattle.determination.proofs.Records.{done-is, done-phase}
 
 pub total-asked : (r : Run) → r .asked ≡ stateOf r .total
 unfolding stateOf
-total-asked r = go (isRunning r) (isDone r)
-  where
-    go : (b d : Bool) → r .asked ≡ cond b (runningState r) (cond d (doneState r) (closedState r)) .total
-    go true d = refl
-    go false true = refl
-    go false false = refl
+total-asked r = refl
 
 -- ---- no rows before done and after closed
 
 not-finished : (r : Run) → isDone r ≡ false → stateOf r .phase ≡ finished → ⊥
-unfolding stateOf
+unfolding stateOf runPhase
 not-finished r e = rw e (go (isRunning r))
   where
-    go : (b : Bool) → cond b (runningState r) (closedState r) .phase ≡ finished → ⊥
-    go true z = let x : _≡_ {A = ℕ} 0 1 = cc in omega arith
-    go false z = let x : _≡_ {A = ℕ} 0 1 = cc in omega arith
+    go : (b : Bool) → cond b running closed ≡ finished → ⊥
+    go true z = running-not-finished z
+    go false z = closed-not-finished z
 
 no-fetch : (f : Phase) (R : List Row) (p : ℕ) → (f ≡ finished → ⊥) → no-row late ≡ fetchRule f R p
 unfolding fetchRule
@@ -59,7 +56,7 @@ module _ (r : Run) (d : isDone r ≡ true) (P : length (r .patterns) ≡ 64) (C 
   few : r .rows ≤ 64
   few = done-phase r d .1
 
-  finished-is : stateOf r ≡ doneState r
+  finished-is : stateOf r ≡ stateIn finished r
   finished-is = done-is r d
 
   p-length : length (take (r .rows) (r .patterns)) ≡ r .rows
@@ -71,7 +68,7 @@ module _ (r : Run) (d : isDone r ≡ true) (P : length (r .patterns) ≡ 64) (C 
   rows-length : length (rowsWith (take (r .rows) (r .patterns)) (take (r .rows) (r .counts))) ≡ r .rows
   rows-length = with-length (take (r .rows) (r .patterns)) (take (r .rows) (r .counts)) (p-length ∙ sym c-length) ∙ p-length
 
-  pub fetch-past : (p : ℕ) → r .rows ≤ p → no-row past-last ≡ fetchOf (stateOf r) p
+  pub fetch-past : (p : ℕ) → r .rows ≤ p → no-row pastLast ≡ fetchOf (stateOf r) p
   unfolding fetchOf fetchRule
   fetch-past p h = rw (finished-is, rows-length, le-ltb p (r .rows) h) refl
 
@@ -89,11 +86,11 @@ module _ (r : Run) (d : isDone r ≡ true) (P : length (r .patterns) ≡ 64) (C 
       )
       refl
 
-  pub copy-short-patterns : (a b : List ℕ) → length a < r .rows → kept too-short a b ≡ copyOf (stateOf r) a b
+  pub copy-short-patterns : (a b : List ℕ) → length a < r .rows → kept tooShort a b ≡ copyOf (stateOf r) a b
   unfolding copyOf copyRule
   copy-short-patterns a b h = rw (finished-is, rows-length, lt-leb (r .rows) (length a) h) refl
 
-  pub copy-short-counts : (a b : List ℕ) → r .rows ≤ length a → length b < r .rows → kept too-short a b ≡ copyOf (stateOf r) a b
+  pub copy-short-counts : (a b : List ℕ) → r .rows ≤ length a → length b < r .rows → kept tooShort a b ≡ copyOf (stateOf r) a b
   unfolding copyOf copyRule
   copy-short-counts a b g h = rw (finished-is, rows-length, le-leb (r .rows) (length a) g, lt-leb (r .rows) (length b) h) refl
 

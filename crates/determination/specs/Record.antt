@@ -1,27 +1,33 @@
--- The run record of the code, and what it stands for in the rules of `Run`. Assumes nothing: these are definitions.
+-- The run record of the code, and what it stands for in the rules of `Run`.
 --
 --   stepOf, fetchedOf, copiedOf == what the code's calls give, in the rules' words, with document 01's numbers
---   outside-limits   == the refusal number 3
 --   goes-on, is-done == the phase of a record whose run goes on, and of one whose run is done
 --   isSound run      == the test of a running record: its numbers are within limits, and its products are of the polynomials before its round
 --   mostAsked        == a number above the questions of any such record
 --   isRunning run    == the test of a record whose run goes on
 --   isDone run       == the test of a record that is done: at most 64 rows
---   runningState, doneState, closedState == a record as one of a run that goes on, is done or is closed; a closed one holds no rows
---   stateOf run      == what the record stands for. A record may hold anything: one that no start and no answer could have left, so that it fails
---                       the test, stands for a closed run
+--   stateIn f run    == what the record stands for in the phase f: closed, it holds no rows, and only while the run goes on products and answers
+--   runningState run == the same of a run that goes on
+--   runPhase run     == the phase that the record stands for. A record may hold anything: one that no start and no answer could have left, so
+--                       that it fails the test, stands for a closed run
+--   stateOf run      == what the record stands for, in that phase
 --   withAnswer r z, lateOn r == the round's answers with one more, and what an answer after the end gives
+--   AnswerGives run a run′ step == what an answer a to the record run promises of the record run′ after it and of the step
 --   startedOf s      == the record that a start for s polynomials gives, and the step: 3 outside 1 .. 8
+use mathlib.Core.Path.{_≡_}
 use mathlib.Core.Bool.{Bool, true, cond, _&&_}
 use mathlib.Core.List.{List, [], _∷_, _++_}
 use Prim.Native.Nat.{ℕ, suc, _+_, _*_, _-_, _^_}
 use lib.Dec.{eqb, leb}
 use lib.IntN.{ℤ}
 use lib.ListN.{take}
+use Rattle.refusals.specs.Numbers.{late, wrongCount}
+use Rattle.refusals.specs.Limits.{mostPoints, mostPolynomials}
 use Rattle.signs.specs.Lists.{isBelow}
-use Rattle.rounds.specs.Rows.{maxPoints, maxPolynomials, Row, rowsWith}
+use Rattle.rounds.specs.Rows.{Row, rowsWith}
+use Rattle.rounds.specs.RoundEnd.{roundRows}
 use Rattle.run_parts.specs.Parts.{inLimits}
-use Rattle.runs.specs.Run.{State, running, finished, closed, Step, ask, done, refused, Fetch, row, no-row, Copied, copied, not-copied, late, startOf}
+use Rattle.runs.specs.Run.{State, Phase, running, finished, closed, Step, ask, done, refused, Fetch, row, no-row, Copied, copied, not-copied, newIn, startOf, answerOf}
 use Rattle.determination.specs.declared.Run.{Run}
 use Rattle.determination.specs.declared.Answered.{Answered}
 use Rattle.determination.specs.declared.Fetched.{Fetched}
@@ -32,9 +38,6 @@ use Rattle.determination.specs.declared.Copied as code-copied
 use Rattle.determination.specs.declared.Copied.the-variants as copies
 
 -- ---- what a call gives
-
-abbrev pub outside-limits : ℕ
-outside-limits = 3
 
 abbrev pub stepOf : code-step.Step → Step
 stepOf (steps.Ask p) = ask (p .0)
@@ -59,7 +62,7 @@ abbrev pub is-done : ℕ
 is-done = 1
 
 abbrev pub mostAsked : ℕ
-mostAsked = 2 * maxPoints * suc maxPolynomials
+mostAsked = 2 * mostPoints * suc mostPolynomials
 
 unfoldable pub isSound : Run → Bool
 isSound r =
@@ -71,7 +74,7 @@ unfoldable pub isRunning : Run → Bool
 isRunning r = eqb (r .phase) goes-on && isSound r
 
 unfoldable pub isDone : Run → Bool
-isDone r = eqb (r .phase) is-done && leb (r .rows) maxPoints
+isDone r = eqb (r .phase) is-done && leb (r .rows) mostPoints
 
 -- the answers of the round with one more
 abbrev pub withAnswer : Run → ℤ → List ℤ
@@ -81,43 +84,48 @@ withAnswer r z = take (r .answered) (r .answers) ++ (z ∷ [])
 abbrev pub lateOn : Run → Answered
 lateOn r = record { run = r; step = steps.Refused late }
 
+-- what a record holds in some phases only
+abbrev pub unlessClosed : {A : Type 0} → Phase → List A → List A
+unlessClosed running l = l
+unlessClosed finished l = l
+unlessClosed closed l = []
+
+abbrev pub whileRunning : {A : Type 0} → Phase → List A → List A
+whileRunning running l = l
+whileRunning finished l = []
+whileRunning closed l = []
+
+abbrev pub stateIn : Phase → Run → State
+stateIn f r =
+    record {
+      polynomials = r .polynomials;
+      total = r .asked;
+      phase = f;
+      round = r .round;
+      n = r .points;
+      rows = unlessClosed f (rowsWith (take (r .rows) (r .patterns)) (take (r .rows) (r .counts)));
+      products = whileRunning f (take (r .rows) (r .products));
+      answers = whileRunning f (take (r .answered) (r .answers));
+    }
+
 abbrev pub runningState : Run → State
-runningState r =
-    record {
-      polynomials = r .polynomials;
-      total = r .asked;
-      phase = running;
-      round = r .round;
-      n = r .points;
-      rows = rowsWith (take (r .rows) (r .patterns)) (take (r .rows) (r .counts));
-      products = take (r .rows) (r .products);
-      answers = take (r .answered) (r .answers);
-    }
+runningState r = stateIn running r
 
-abbrev pub doneState : Run → State
-doneState r =
-    record {
-      polynomials = r .polynomials;
-      total = r .asked;
-      phase = finished;
-      round = r .round;
-      n = r .points;
-      rows = rowsWith (take (r .rows) (r .patterns)) (take (r .rows) (r .counts));
-      products = [];
-      answers = [];
-    }
-
-abbrev pub closedState : Run → State
-closedState r =
-    record { polynomials = r .polynomials; total = r .asked; phase = closed; round = r .round; n = r .points; rows = []; products = []; answers = [] }
+unfoldable pub runPhase : Run → Phase
+runPhase r = cond (isRunning r) running (cond (isDone r) finished closed)
 
 unfoldable pub stateOf : Run → State
-stateOf r = cond (isRunning r) (runningState r) (cond (isDone r) (doneState r) (closedState r))
+stateOf r = stateIn (runPhase r) r
+
+-- ---- an answer
+
+pub record AnswerGives (run : Run) (a : ℤ) (run′ : Run) (step : Step) : Type 0 where
+  -- the two are as the rules say
+  pub by-rules : _≡_ {A = State × Step} (stateOf run′, step) (answerOf roundRows (stateOf run) a)
+  -- and where the answer comes too late the record is as it was, whatever it holds
+  pub as-it-was : step ≡ refused late → run′ ≡ run
 
 -- ---- the start
 
 unfoldable pub startedOf : ℕ → State × Step
-startedOf s =
-    cond (leb 1 s && leb s maxPolynomials)
-    (startOf s, ask 0)
-    (record { polynomials = s; total = 0; phase = closed; round = 0; n = 0; rows = []; products = []; answers = [] }, refused outside-limits)
+startedOf s = cond (leb 1 s && leb s mostPolynomials) (startOf s, ask 0) (newIn closed s, refused wrongCount)

@@ -9,12 +9,23 @@ ghost use mathlib.Core.Option.{some};
 ghost use Prim.Native.Nat.{suc, _+_, _*_, _-_, _^_, _≤_, _<_};
 ghost use lib.IntN.{natAbs};
 ghost use lib.ListN.{take};
+ghost use Rattle.refusals.specs.Limits.{mostPolynomials, mostPoints};
 ghost use Rattle.signs.specs.Lists.{Below, Rising};
 ghost use Rattle.rounds.specs.RoundEnd.{roundRows};
-ghost use Rattle.runs.specs.Run.{answerOf, close as closeOf, goOn, endRound, ended, first as firstOf, later as laterOf, fetchOf, copyOf, refused, late};
+ghost use Rattle.runs.specs.Run.{close as closeOf, goOn, endRound, ended, first as firstOf, later as laterOf, fetchOf, copyOf};
 ghost use Rattle.run_parts.specs.Parts.{heldRows};
-ghost use Rattle.determination.specs.Record.{goes-on, mostAsked, isSound, isRunning, runningState, withAnswer, isDone, lateOn, stateOf, stepOf, fetchedOf, copiedOf, startedOf};
+ghost use Rattle.determination.specs.Record.{goes-on, mostAsked, isSound, isRunning, runningState, withAnswer, isDone, lateOn, stateOf, stepOf, fetchedOf, copiedOf, AnswerGives, startedOf};
 use integers::magnitude;
+use refusals::BAD_FIRST;
+use refusals::BAD_LATER;
+use refusals::LATE;
+use refusals::MOST_POLYNOMIALS;
+use refusals::MOST_PRODUCTS;
+use refusals::MOST_ROWS;
+use refusals::NO_COUNTS;
+use refusals::PAST_LAST;
+use refusals::TOO_SHORT;
+use refusals::WRONG_COUNT;
 use round_end::Next;
 use run_parts::Rows;
 use run_parts::copy_front;
@@ -28,27 +39,8 @@ use signs::Pattern;
 use signs::Product;
 use signs::power;
 
-// The most polynomials, points and rows (document 01).
-const MOST_POLYNOMIALS: usize = 8;
-
-const MOST_POINTS: u64 = 64;
-
-const MOST_ROWS: usize = 64;
-
-// The refusal numbers of document 01.
-const OUTSIDE_LIMITS: u16 = 3;
-
-const LATE: u16 = 7;
-
-const BAD_FIRST: u16 = 8;
-
-const BAD_LATER: u16 = 9;
-
-const NO_COUNTS: u16 = 10;
-
-const PAST_LAST: u16 = 14;
-
-const TOO_SHORT: u16 = 15;
+// The most points, as the record has their number.
+const MOST_POINTS: u64 = refusals::MOST_POINTS as u64;
 
 // Where a run stands. Any other number is read as closed.
 pub const RUNNING: u8 = 0;
@@ -92,11 +84,11 @@ pub struct Run {
     pub round: usize,
     pub points: u64,
     pub rows: usize,
-    pub patterns: [u16; 64],
-    pub counts: [u16; 64],
-    pub products: [u16; 64],
+    pub patterns: [u16; MOST_ROWS],
+    pub counts: [u16; MOST_ROWS],
+    pub products: [u16; MOST_ROWS],
     pub answered: usize,
-    pub answers: [i8; 128],
+    pub answers: [i8; MOST_PRODUCTS],
 }
 
 // The record after a call, and the step.
@@ -116,11 +108,11 @@ fn fresh(s: usize, phase: u8) -> Run
         round: 0,
         points: 0,
         rows: 0,
-        patterns: [0u16; 64],
-        counts: [0u16; 64],
-        products: [0u16; 64],
+        patterns: [0u16; MOST_ROWS],
+        counts: [0u16; MOST_ROWS],
+        products: [0u16; MOST_ROWS],
         answered: 0,
-        answers: [0i8; 128],
+        answers: [0i8; MOST_PRODUCTS],
     }
 }
 
@@ -132,13 +124,13 @@ pub fn start(s: usize) -> Answered
     if s < 1 {
         return Answered {
             run: fresh(s, CLOSED),
-            step: Step::Refused(OUTSIDE_LIMITS),
+            step: Step::Refused(WRONG_COUNT),
         };
     }
     if MOST_POLYNOMIALS < s {
         return Answered {
             run: fresh(s, CLOSED),
-            step: Step::Refused(OUTSIDE_LIMITS),
+            step: Step::Refused(WRONG_COUNT),
         };
     }
     Answered {
@@ -196,7 +188,7 @@ fn close(mut run: Run, k: u16) -> Answered
 
 // Round i has ended with these rows, and the run is done.
 fn finish(mut run: Run, i: usize, points: u64, found: Rows) -> Answered
-    requires { ⌜ (run .asked < mostAsked) × (found .number ≤ 64) ⌝ }
+    requires { ⌜ (run .asked < mostAsked) × (found .number ≤ mostPoints) ⌝ }
     ensures { λ r. ⌜ (stateOf (r .run), stepOf (r .step)) ≡ ended roundRows (runningState run) i points (heldRows found) true ⌝ }
 {
     let patterns = found.patterns;
@@ -217,8 +209,8 @@ fn finish(mut run: Run, i: usize, points: u64, found: Rows) -> Answered
 
 // Round i has ended with these rows, and the next round begins: its first product is asked.
 fn begin(mut run: Run, i: usize, points: u64, found: Rows) -> Answered
-    requires { ⌜ (run .phase ≡ goes-on) × (i < run .polynomials) × (run .polynomials ≤ 8) × (points ≤ 64) × (run .asked < 128 * suc i) ⌝ }
-    requires { ⌜ (0 < found .number) × (found .number ≤ 64) ⌝ }
+    requires { ⌜ (run .phase ≡ goes-on) × (i < run .polynomials) × (run .polynomials ≤ mostPolynomials) × (points ≤ mostPoints) × (run .asked < 2 * mostPoints * suc i) ⌝ }
+    requires { ⌜ (0 < found .number) × (found .number ≤ mostPoints) ⌝ }
     requires { ⌜ Rising (take (found .number) (found .patterns)) × Below (3 ^ i) (take (found .number) (found .patterns)) ⌝ }
     ensures { λ r. ⌜ (stateOf (r .run), stepOf (r .step)) ≡ ended roundRows (runningState run) i points (heldRows found) false ⌝ }
 {
@@ -280,7 +272,7 @@ fn go_on(mut run: Run, a: i64) -> Answered
 
 // The round has ended with these rows: the run is done, or the next round begins.
 fn next_round(run: Run, found: Rows) -> Answered
-    requires { ⌜ (isRunning run ≡ true) × (0 < run .round) × (0 < found .number) × (found .number ≤ 64) ⌝ }
+    requires { ⌜ (isRunning run ≡ true) × (0 < run .round) × (0 < found .number) × (found .number ≤ mostPoints) ⌝ }
     requires { ⌜ Rising (take (found .number) (found .patterns)) × Below (3 ^ run .round) (take (found .number) (found .patterns)) ⌝ }
     ensures { λ r. ⌜ (stateOf (r .run), stepOf (r .step)) ≡ endRound roundRows (runningState run) (run .round - 1) (some (heldRows found)) ⌝ }
 {
@@ -354,7 +346,7 @@ fn late(run: Run) -> Answered
 // 0 .. 64, 9 for a later one outside −n .. n, n being the first, and 10 for a round's last one where no counts fit; each closes the record, which
 // then holds no rows. After done or closed 7, and the record is as it was.
 pub fn answer(run: Run, a: i64) -> Answered
-    ensures { λ r. ⌜ ((stateOf (r .run), stepOf (r .step)) ≡ answerOf roundRows (stateOf run) a) × (stepOf (r .step) ≡ refused late → r .run ≡ run) ⌝ }
+    ensures { λ r. ⌜ AnswerGives run a (r .run) (stepOf (r .step)) ⌝ }
 {
     if !running(run) {
         return late(run);
@@ -367,7 +359,7 @@ pub fn answer(run: Run, a: i64) -> Answered
 
 // The same on a lent record: it is updated where it lies, and the step is returned.
 pub fn answer_lent(run: &mut Run, a: i64) -> Step
-    ensures { λ r. ⌜ ((stateOf (now (run .exit)), stepOf r) ≡ answerOf roundRows (stateOf (now (run .entry))) a) × (stepOf r ≡ refused late → now (run .exit) ≡ now (run .entry)) ⌝ }
+    ensures { λ r. ⌜ AnswerGives (now (run .entry)) a (now (run .exit)) (stepOf r) ⌝ }
 {
     let r = answer(*run, a);
     *run = r.run;
@@ -376,7 +368,7 @@ pub fn answer_lent(run: &mut Run, a: i64) -> Step
 
 // The same by value, through the lent entry: a local record is lent to it.
 pub fn answer_through(run: Run, a: i64) -> Answered
-    ensures { λ t. ⌜ ((stateOf (t .run), stepOf (t .step)) ≡ answerOf roundRows (stateOf run) a) × (stepOf (t .step) ≡ refused late → t .run ≡ run) ⌝ }
+    ensures { λ t. ⌜ AnswerGives run a (t .run) (stepOf (t .step)) ⌝ }
 {
     let mut kept = run;
     let step = answer_lent(&mut kept, a);

@@ -1,5 +1,4 @@
--- The text of numbers and of the lines of a printout, as lists of bytes in ASCII (document 01, "One card through"). Assumes nothing: these are
--- definitions.
+-- The text of numbers and of the lines of a printout, as lists of bytes in ASCII (document 01, "One card through").
 --
 --   decimalTo f n == the digits of n to the base 10, the last one right, f being at least as many as there are
 --   decimal n     == the same of every number: 0 is `0`, and no other number begins with `0`
@@ -7,6 +6,7 @@
 --   questionLine product answer, rowLine pattern count, endLine questions, refusalLine number
 --                 == "Q product answer; S pattern count; E questions", and "`R` and its number", each with a newline at its end
 --   textOf l      == the text that a line of the code holds: its front bytes
+--   lineRoom      == 80, the bytes that a line of the code has room for
 use mathlib.Core.Bool.{cond}
 use mathlib.Core.List.{List, [], _∷_, _++_}
 use Prim.Native.Nat.{ℕ, zero, suc, _+_, _/_, _%_}
@@ -67,6 +67,9 @@ endLine questions = (letter-E ∷ space ∷ decimal questions) ++ (newline ∷ [
 
 unfoldable pub refusalLine : ℕ → List ℕ
 refusalLine number = (letter-R ∷ space ∷ decimal number) ++ (newline ∷ [])
+
+abbrev pub lineRoom : ℕ
+lineRoom = 80
 
 abbrev pub textOf : Line → List ℕ
 textOf l = take (l .length) (l .bytes)

@@ -1,8 +1,8 @@
 -- THEOREM of the code: what `begin` and then `next_line` give, call after call, is the card's printout. The calls are known by their contracts alone
--- (`Learnt`: what a call promises of its arguments and its result), so that a weaker promise of either breaks the theorem. Assumes nothing.
+-- (`Learnt`: what a call promises of its arguments and its result), so that a weaker promise of either breaks the theorem.
 --
---   Calls t os  == calls of `next_line` one after the other, the first on the play t and each on the play that the one before left, gave os
---   lastOf t os == the play that they leave
+--   Calls t os  == calls of `next_line` one after the other, the first on t and each on the progress that the one before left, gave os
+--   lastOf t os == the progress that they leave
 --   texts os    == the lines that they gave
 use mathlib.Core.Path.{_≡_, refl, sym, ap₂, _∙_, subst}
 use mathlib.Core.List.{List, [], _∷_, map}
@@ -12,38 +12,38 @@ use lib.ListN.{length}
 use contract.Lifetimes.{Lfts}
 use denote.Ref.{RefT, now}
 use Rattle.lines.specs.Text.{textOf}
-use Rattle.printout.specs.declared.Play.{Play}
+use Rattle.printout.specs.declared.Progress.{Progress}
 use Rattle.printout.specs.declared.Printed.{Printed}
 use Rattle.printout.specs.Printout.{linesOf}
-use Rattle.printout.specs.Play.{over, Standing, standing, nextOf, Shows, Prints}
+use Rattle.printout.specs.Progress.{over, ProgressState, progressOf, nextOf, Shows, Prints}
 use Rattle.printout.proofs.Printing.{prints}
 use Rattle.printout.proofs.begin.Reads as begin
 use Rattle.printout.proofs.next_line.Reads as next-line
 
-unfoldable pub Calls : Play → List Printed → Type 0
+unfoldable pub Calls : Progress → List Printed → Type 0
 Calls t [] = Unit {0}
-Calls t (o ∷ os) = next-line.Learnt tt (t, tt) o (t, tt) × Calls (o .play) os
+Calls t (o ∷ os) = next-line.Learnt tt (t, tt) o (t, tt) × Calls (o .progress) os
 
-unfoldable pub lastOf : Play → List Printed → Play
+unfoldable pub lastOf : Progress → List Printed → Progress
 lastOf t [] = t
-lastOf t (o ∷ os) = lastOf (o .play) os
+lastOf t (o ∷ os) = lastOf (o .progress) os
 
 abbrev pub texts : List Printed → List (List ℕ)
 texts os = map (λ o. textOf (o .line)) os
 
-calls-print : (t : Play) (ls : List (List ℕ)) (os : List Printed) → Prints (standing t) ls → Calls t os → length os ≡ length ls
-    → (texts os ≡ ls) × (standing (lastOf t os) .stage ≡ over)
+calls-print : (t : Progress) (ls : List (List ℕ)) (os : List Printed) → Prints (progressOf t) ls → Calls t os → length os ≡ length ls
+    → (texts os ≡ ls) × (progressOf (lastOf t os) .stage ≡ over)
 unfolding Prints Calls lastOf
 calls-print t [] [] p c h = (refl, p)
 calls-print t [] (o ∷ os) p c h = absurd (omega arith)
 calls-print t (l ∷ ls) [] p c h = absurd (omega arith)
 calls-print t (l ∷ ls) (o ∷ os) p c h =
-    let s : Shows o (nextOf (standing t)) = c .0 in
-    let (a, b) = calls-print (o .play) ls os (subst (λ (u : Standing). Prints u ls) (sym (s .left)) (p .1)) (c .1) (omega arith) in
+    let s : Shows o (nextOf (progressOf t)) = c .0 in
+    let (a, b) = calls-print (o .progress) ls os (subst (λ (u : ProgressState). Prints u ls) (sym (s .left)) (p .1)) (c .1) (omega arith) in
     (ap₂ _∷_ (s .text ∙ p .0) a, b)
 
 -- from the start on a card, as many calls as its printout has lines give these lines, and then it is over
-pub code-lines : (κs : Lfts 1) (card : RefT (List ℕ)) (t : Play) (os : List Printed) → begin.Learnt κs (card, tt) t (card, tt) → Calls t os
-    → length os ≡ length (linesOf (now card)) → (texts os ≡ linesOf (now card)) × (standing (lastOf t os) .stage ≡ over)
+pub code-lines : (κs : Lfts 1) (card : RefT (List ℕ)) (t : Progress) (os : List Printed) → begin.Learnt κs (card, tt) t (card, tt) → Calls t os
+    → length os ≡ length (linesOf (now card)) → (texts os ≡ linesOf (now card)) × (progressOf (lastOf t os) .stage ≡ over)
 code-lines κs card t os b c h =
-    calls-print t (linesOf (now card)) os (subst (λ (u : Standing). Prints u (linesOf (now card))) (sym b) (prints (now card))) c h
+    calls-print t (linesOf (now card)) os (subst (λ (u : ProgressState). Prints u (linesOf (now card))) (sym b) (prints (now card))) c h

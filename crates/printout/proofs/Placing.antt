@@ -1,4 +1,4 @@
--- A text placed at the front of a slice, or not. Assumes nothing.
+-- A text placed at the front of a slice, or not.
 use mathlib.Core.Path.{_≡_, refl}
 use mathlib.Core.List.{List}
 use Prim.Native.Nat.{ℕ, _+_, _<_, _≤_}
@@ -6,12 +6,13 @@ use native.Mathlib.Omega.{arith}
 use borrow.Author.Tests.{le-leb, lt-leb}
 use lib.ListN.{length}
 use lib.Seq.{paste, take-length}
+use Rattle.refusals.specs.Numbers.{tooShort}
 use Rattle.printout.specs.declared.Written as code
 use Rattle.printout.specs.declared.Written.the-variants as written
-use Rattle.printout.specs.Written.{too-short, placed}
+use Rattle.printout.specs.Written.{placed}
 
 module _ (t out : List ℕ) (n : ℕ) (long : n ≡ length t) where
-  pub placed-short : length out < n → _≡_ {A = code.Written × List ℕ} (written.Refused too-short, out) (placed t out)
+  pub placed-short : length out < n → _≡_ {A = code.Written × List ℕ} (written.Refused tooShort, out) (placed t out)
   unfolding placed
   placed-short h = rw (lt-leb (length t) (length out) (omega arith)) refl
 

@@ -41,18 +41,18 @@ use Rattle.contents_runs.specs.Runs.{runOn}
 use Rattle.contents_runs.proofs.Runs.{oracle, contents-done, contents-rows}
 use Rattle.lines.specs.Text.{questionLine, rowLine, endLine, refusalLine}
 use Rattle.printout.specs.Printout.{questions, questionLines, rowLines, soundLines, linesOf}
-use Rattle.printout.specs.Play.{Stage, question, row-at, over, Standing, begunOf, gives, onStep, onAnswer, afterRow, onFetch, nextAt, nextOf, Prints}
+use Rattle.printout.specs.Progress.{Stage, question, row-at, over, ProgressState, begunOf, gives, onStep, onAnswer, afterRow, onFetch, nextAt, nextOf, Prints}
 use Rattle.printout.proofs.Questions.{asked-questions, found-realized, few-rows, few-questions}
 
 -- ---- the rows of a run that is done
 
-abbrev at : Opened → State → Stage → Standing
+abbrev at : Opened → State → Stage → ProgressState
 at o r g = record { card = o; state = r; stage = g }
 
 -- one line more
-prints-more : (t u : Standing) (l : List ℕ) (ls : List (List ℕ)) → nextOf t ≡ (u, l) → Prints u ls → Prints t (l ∷ ls)
+prints-more : (t u : ProgressState) (l : List ℕ) (ls : List (List ℕ)) → nextOf t ≡ (u, l) → Prints u ls → Prints t (l ∷ ls)
 unfolding Prints
-prints-more t u l ls e p = (ap (λ (x : Standing × List ℕ). x .1) e, subst (λ (x : Standing). Prints x ls) (sym (ap (λ (x : Standing × List ℕ). x .0) e)) p)
+prints-more t u l ls e p = (ap (λ (x : ProgressState × List ℕ). x .1) e, subst (λ (x : ProgressState). Prints x ls) (sym (ap (λ (x : ProgressState × List ℕ). x .0) e)) p)
 
 module _ (o : Opened) (r : State) (done : r .phase ≡ finished) where
   next-end : (p : ℕ) → length (r .rows) ≤ p → nextOf (at o r (row-at p)) ≡ gives o r over (endLine (r .total))
@@ -150,8 +150,8 @@ module _ (c : List ℕ) (S : Sound c) where
   abbrev tail : List (List ℕ)
   tail = rowLines (realized s E) ++ (endLine (length (questions s E)) ∷ [])
 
-  -- what is left to ask after the questions qs, and the lines from the standing t on
-  record Rest (qs : List ℕ) (t : Standing) : Type 0 where
+  -- what is left to ask after the questions qs, and the lines from t on
+  record Rest (qs : List ℕ) (t : ProgressState) : Type 0 where
     rest : List ℕ
     all : qs ++ rest ≡ questions s E
     prints : Prints t (questionLines c rest ++ tail)

@@ -1,4 +1,4 @@
--- What a printed line shows, from its parts. Assumes nothing.
+-- What a printed line shows, from its parts.
 use mathlib.Core.Path.{_≡_, refl, sym, ap, _∙_, subst}
 use mathlib.Core.Bool.{false}
 use mathlib.Core.List.{List, []}
@@ -6,6 +6,7 @@ use Prim.Native.Nat.{ℕ, _≤_}
 use lib.Dec.{eqb}
 use lib.IntN.{ℤ}
 use borrow.Author.Tests.{eq-eqb}
+use Rattle.refusals.specs.Numbers.{pastLast}
 use Rattle.signs.specs.declared.Product.{Product}
 use Rattle.query.specs.declared.Opened.{Opened}
 use Rattle.query.specs.declared.Answer.{Answer}
@@ -18,31 +19,31 @@ use Rattle.determination.specs.declared.Step.the-variants as steps
 use Rattle.determination.specs.declared.Row.{Row}
 use Rattle.determination.specs.declared.Fetched.{Fetched}
 use Rattle.determination.specs.declared.Fetched.the-variants as fetches
-use Rattle.runs.specs.Run.{State, Step, Fetch, past-last, answerOf, fetchOf}
+use Rattle.runs.specs.Run.{State, Step, Fetch, answerOf, fetchOf}
 use Rattle.determination.specs.Record.{stateOf, stepOf, fetchedOf, startedOf}
 use Rattle.lines.specs.declared.Line.{Line}
-use Rattle.lines.specs.Text.{textOf, questionLine, rowLine, endLine, refusalLine}
+use Rattle.lines.specs.Text.{lineRoom, textOf, questionLine, rowLine, endLine, refusalLine}
 use Rattle.printout.specs.declared.Stage as code-stage
 use Rattle.printout.specs.declared.Stage.the-variants as stages
-use Rattle.printout.specs.declared.Play.{Play}
+use Rattle.printout.specs.declared.Progress.{Progress}
 use Rattle.printout.specs.declared.Printed.{Printed}
-use Rattle.printout.specs.Play.{Stage, standing, stageOf, begunOf, gives, onStep, onAnswer, onFetch, afterRow, nextAt, nextOf, Shows}
+use Rattle.printout.specs.Progress.{Stage, progressOf, stageOf, begunOf, gives, onStep, onAnswer, onFetch, afterRow, nextAt, nextOf, Shows}
 
 -- ---- a line made from its parts
 
 -- what `with_line` promises, and the text of the line
 pub record Made (o : Printed) (card : Opened) (run : Run) (stage : code-stage.Stage) (t : List ℕ) : Type 0 where
-  pub its-card : o .play .card ≡ card
-  pub its-run : o .play .run ≡ run
-  pub its-stage : o .play .stage ≡ stage
+  pub its-card : o .progress .card ≡ card
+  pub its-run : o .progress .run ≡ run
+  pub its-stage : o .progress .stage ≡ stage
   pub its-text : textOf (o .line) ≡ t
-  pub its-length : o .line .length ≤ 32
+  pub its-length : o .line .length ≤ lineRoom
 
 pub made : (o : Printed) (card : Opened) (run : Run) (stage : code-stage.Stage) (line : Line) (t : List ℕ)
-    → (o .play .card ≡ card) × (o .play .run ≡ run) × (o .play .stage ≡ stage) × (o .line ≡ line)
-    → (textOf line ≡ t) × (line .length ≤ 32) → Made o card run stage t
+    → (o .progress .card ≡ card) × (o .progress .run ≡ run) × (o .progress .stage ≡ stage) × (o .line ≡ line)
+    → (textOf line ≡ t) × (line .length ≤ lineRoom) → Made o card run stage t
 made o card run stage line t (a, b, c, d) (e, f) =
-    record { its-card = a; its-run = b; its-stage = c; its-text = ap textOf d ∙ e; its-length = subst (λ (l : Line). l .length ≤ 32) (sym d) f }
+    record { its-card = a; its-run = b; its-stage = c; its-text = ap textOf d ∙ e; its-length = subst (λ (l : Line). l .length ≤ lineRoom) (sym d) f }
 
 pub shown : (o : Printed) (card : Opened) (run : Run) (stage : code-stage.Stage) (t : List ℕ) → Made o card run stage t
     → Shows o (gives card (stateOf run) (stageOf stage) t)
@@ -97,30 +98,30 @@ module _ (o : Printed) (card : Opened) (run : Run) (p : ℕ) (x : Fetched) (y : 
       subst (λ (v : Fetch). Shows o (onFetch card (stateOf run) p v)) (ap fetchedOf (sym e) ∙ same)
       (subst (λ (u : Stage). Shows o (gives card (stateOf run) u (rowLine (r .pattern .0) (r .count)))) a (shown o card run g (rowLine (r .pattern .0) (r .count)) m))
 
-  pub last-shown : (k : ℕ) → x ≡ fetches.Refused k → k ≡ past-last → Made o card run stages.Over (endLine (stateOf run .total)) → Shows o (onFetch card (stateOf run) p y)
+  pub last-shown : (k : ℕ) → x ≡ fetches.Refused k → k ≡ pastLast → Made o card run stages.Over (endLine (stateOf run .total)) → Shows o (onFetch card (stateOf run) p y)
   unfolding onFetch
   last-shown k e h m =
       subst (λ (v : Fetch). Shows o (onFetch card (stateOf run) p v)) (ap fetchedOf (sym e) ∙ same)
-      (rw (eq-eqb k past-last h) (shown o card run stages.Over (endLine (stateOf run .total)) m))
+      (rw (eq-eqb k pastLast h) (shown o card run stages.Over (endLine (stateOf run .total)) m))
 
-  pub row-refused : (k : ℕ) → x ≡ fetches.Refused k → eqb k past-last ≡ false → Made o card run stages.Over (refusalLine k) → Shows o (onFetch card (stateOf run) p y)
+  pub row-refused : (k : ℕ) → x ≡ fetches.Refused k → eqb k pastLast ≡ false → Made o card run stages.Over (refusalLine k) → Shows o (onFetch card (stateOf run) p y)
   unfolding onFetch
   row-refused k e h m =
       subst (λ (v : Fetch). Shows o (onFetch card (stateOf run) p v)) (ap fetchedOf (sym e) ∙ same)
       (rw h (shown o card run stages.Over (refusalLine k) m))
 
--- ---- the next line of a play
+-- ---- the next line
 
-module _ (o : Printed) (t : Play) where
-  pub question-next : (a : Product) → t .stage ≡ stages.Ask a → Shows o (onAnswer (t .card) (stateOf (t .run)) (a .0) (answer (t .card) (a .0))) → Shows o (nextOf (standing t))
+module _ (o : Printed) (t : Progress) where
+  pub question-next : (a : Product) → t .stage ≡ stages.Ask a → Shows o (onAnswer (t .card) (stateOf (t .run)) (a .0) (answer (t .card) (a .0))) → Shows o (nextOf (progressOf t))
   unfolding nextOf nextAt
   question-next a e s = rw e s
 
-  pub row-next : (p : ℕ) → t .stage ≡ stages.Row p → Shows o (onFetch (t .card) (stateOf (t .run)) p (fetchOf (stateOf (t .run)) p)) → Shows o (nextOf (standing t))
+  pub row-next : (p : ℕ) → t .stage ≡ stages.Row p → Shows o (onFetch (t .card) (stateOf (t .run)) p (fetchOf (stateOf (t .run)) p)) → Shows o (nextOf (progressOf t))
   unfolding nextOf nextAt
   row-next p e s = rw e s
 
-  pub over-next : t .stage ≡ stages.Over → Made o (t .card) (t .run) stages.Over [] → Shows o (nextOf (standing t))
+  pub over-next : t .stage ≡ stages.Over → Made o (t .card) (t .run) stages.Over [] → Shows o (nextOf (progressOf t))
   unfolding nextOf nextAt
   over-next e m = rw e (shown o (t .card) (t .run) stages.Over [] m)
 
@@ -128,6 +129,6 @@ module _ (o : Printed) (t : Play) where
 
 pub begun : (c : List ℕ) (o : Opened) (run : Run) (step : code-step.Step) → o ≡ opened c
     → _≡_ {A = State × Step} (stateOf run, stepOf step) (startedOf (o .s))
-    → standing (record { card = o; run = run; stage = stages.Ask (record { 0 = 0 }) }) ≡ begunOf c
+    → progressOf (record { card = o; run = run; stage = stages.Ask (record { 0 = 0 }) }) ≡ begunOf c
 unfolding begunOf
 begun c o run step e h = rw (← e, ← h) refl

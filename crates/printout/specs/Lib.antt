@@ -1,3 +1,3 @@
 pub mod Printout
-pub mod Play
+pub mod Progress
 pub mod Written

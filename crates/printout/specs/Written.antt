@@ -1,23 +1,30 @@
--- What a call for the whole printout gives (document 01, "Cause, and what the caller gets"). Assumes nothing: these are definitions.
+-- What a call for the whole printout gives (document 01, "Cause, and what the caller gets").
 --
---   too-short         == 15, an output slice is too short
+--   mostLines         == 658, the most lines of a printout: 593 questions, 64 rows and the last line
+--   mostText          == the room that so many lines need at most
 --   placed t out      == where the text t fits the slice out: how many bytes it has, and the slice with t at its front, "Longer output slices keep what
---                        lies past the result"; else 15, and the slice as it was
+--                        lies past the result"; else 15, too short, and the slice as it was
 --   writtenOf c out   == the same of the printout of the card c
 use mathlib.Core.Bool.{cond}
 use mathlib.Core.List.{List, _++_}
-use Prim.Native.Nat.{ℕ}
+use Prim.Native.Nat.{ℕ, _+_, _*_}
 use lib.Dec.{leb}
 use lib.ListN.{length, drop}
+use Rattle.refusals.specs.Numbers.{tooShort}
+use Rattle.refusals.specs.Limits.{mostPoints, mostQuestions}
+use Rattle.lines.specs.Text.{lineRoom}
 use Rattle.printout.specs.declared.Written as code
 use Rattle.printout.specs.declared.Written.the-variants as written
 use Rattle.printout.specs.Printout.{printoutOf}
 
-abbrev pub too-short : ℕ
-too-short = 15
+abbrev pub mostLines : ℕ
+mostLines = mostQuestions + mostPoints + 1
+
+abbrev pub mostText : ℕ
+mostText = mostLines * lineRoom
 
 unfoldable pub placed : List ℕ → List ℕ → code.Written × List ℕ
-placed t out = cond (leb (length t) (length out)) (written.Bytes (length t), t ++ drop (length t) out) (written.Refused too-short, out)
+placed t out = cond (leb (length t) (length out)) (written.Bytes (length t), t ++ drop (length t) out) (written.Refused tooShort, out)
 
 abbrev pub writtenOf : List ℕ → List ℕ → code.Written × List ℕ
 writtenOf c out = placed (printoutOf c) out

@@ -1,6 +1,6 @@
 // The printout of a card (document 01, "One card through"): whole, or line by line.
 //
-// No public call has a condition: any bytes, and any play, have an answer.
+// No public call has a condition: any bytes, and any progress, have an answer.
 ghost use mathlib.Core.Path.{_≡_};
 ghost use mathlib.Core.List.{_++_};
 ghost use Prim.Native.Nat.{_+_, _≤_};
@@ -9,31 +9,28 @@ ghost use Rattle.query.specs.Opened.{answer as answerOn};
 ghost use Rattle.rounds.specs.RoundEnd.{roundRows};
 ghost use Rattle.runs.specs.Run.{answerOf, fetchOf};
 ghost use Rattle.determination.specs.Record.{stateOf};
-ghost use Rattle.lines.specs.Text.{textOf};
+ghost use Rattle.lines.specs.Text.{lineRoom, textOf};
 ghost use Rattle.printout.specs.Printout.{printoutOf};
-ghost use Rattle.printout.specs.Written.{writtenOf};
-ghost use Rattle.printout.specs.Play.{standing, stageOf, begunOf, gives, onStep, onAnswer, onFetch, afterRow, nextOf, Shows};
+ghost use Rattle.printout.specs.Written.{mostText, writtenOf};
+ghost use Rattle.printout.specs.Progress.{progressOf, stageOf, begunOf, gives, onStep, onAnswer, onFetch, afterRow, nextOf, Shows};
 use determination::Fetched;
 use determination::Run;
 use determination::Step;
+use lines::LINE_ROOM;
 use lines::Line;
 use query::Answer;
 use query::Opened;
+use refusals::MOST_QUESTIONS;
+use refusals::MOST_ROWS;
+use refusals::PAST_LAST;
+use refusals::TOO_SHORT;
 use signs::Product;
 
-// The most rows of a run.
-const MOST_ROWS: usize = 64;
+// The most lines of a printout: the questions, the rows and the last line.
+pub const MOST_LINES: usize = MOST_QUESTIONS + MOST_ROWS + 1;
 
-// The most lines of a printout: 593 questions, 64 rows and the last line.
-pub const MOST_LINES: usize = 658;
-
-// The room that so many lines need at most, 32 bytes each.
-const MOST_TEXT: usize = 21056;
-
-// The refusal numbers past the last row, and of a slice that is too short.
-const PAST_LAST: u16 = 14;
-
-const TOO_SHORT: u16 = 15;
+// The room that so many lines need at most.
+pub const MOST_TEXT: usize = MOST_LINES * LINE_ROOM;
 
 // What comes next: a question, the row at a position, or nothing more.
 pub enum Stage {
@@ -43,15 +40,15 @@ pub enum Stage {
 }
 
 // A printout that goes on: the opened card, the run on it, and what comes next.
-pub struct Play {
+pub struct Progress {
     pub card: Opened,
     pub run: Run,
     pub stage: Stage,
 }
 
-// A line, and the play after it.
+// A line, and the progress after it.
 pub struct Printed {
-    pub play: Play,
+    pub progress: Progress,
     pub line: Line,
 }
 
@@ -62,13 +59,13 @@ pub enum Written {
 }
 
 // The printout of a card before its first line.
-pub fn begin(card: &[u8]) -> Play
-    ensures { λ r. ⌜ standing r ≡ begunOf (now (card .entry)) ⌝ }
+pub fn begin(card: &[u8]) -> Progress
+    ensures { λ r. ⌜ progressOf r ≡ begunOf (now (card .entry)) ⌝ }
 {
     let opened = query::open(card);
     let first = determination::start(opened.s);
     let run = first.run;
-    Play {
+    Progress {
         card: opened,
         run: run,
         stage: Stage::Ask(Product(0)),
@@ -77,15 +74,15 @@ pub fn begin(card: &[u8]) -> Play
 
 // A line with what is left.
 fn with_line(card: Opened, run: Run, stage: Stage, line: Line) -> Printed
-    ensures { λ r. ⌜ (r .play .card ≡ card) × (r .play .run ≡ run) × (r .play .stage ≡ stage) × (r .line ≡ line) ⌝ }
+    ensures { λ r. ⌜ (r .progress .card ≡ card) × (r .progress .run ≡ run) × (r .progress .stage ≡ stage) × (r .line ≡ line) ⌝ }
 {
-    let play = Play {
+    let progress = Progress {
         card: card,
         run: run,
         stage: stage,
     };
     Printed {
-        play: play,
+        progress: progress,
         line: line,
     }
 }
@@ -149,14 +146,14 @@ fn next_row(card: Opened, run: Run, p: usize) -> Printed
     }
 }
 
-// The next line, and the play after it: a Q line for the question asked, an S line for each row, the E line past the last row, and the empty line
+// The next line, and the progress after it: a Q line for the question asked, an S line for each row, the E line past the last row, and the empty line
 // once it is over. Where the card or the run refuses, its R line, and it is over.
-pub fn next_line(play: Play) -> Printed
-    ensures { λ r. ⌜ Shows r (nextOf (standing play)) ⌝ }
+pub fn next_line(progress: Progress) -> Printed
+    ensures { λ r. ⌜ Shows r (nextOf (progressOf progress)) ⌝ }
 {
-    let card = play.card;
-    let run = play.run;
-    let stage = play.stage;
+    let card = progress.card;
+    let run = progress.run;
+    let stage = progress.stage;
     match stage {
         Stage::Ask(a) => next_question(card, run, a),
         Stage::Row(p) => next_row(card, run, p),
@@ -166,8 +163,8 @@ pub fn next_line(play: Play) -> Printed
 
 // Writes a line to out, from byte `at` on, and returns where it ends.
 fn put_line(line: Line, out: &mut [u8], at: usize) -> usize
-    requires { ⌜ (line .length ≤ 32) × (at + 32 ≤ length (now out)) ⌝ }
-    ensures { λ r. ⌜ (take r (now (out .exit)) ≡ take at (now (out .entry)) ++ textOf line) × (r ≤ at + 32) ⌝ }
+    requires { ⌜ (line .length ≤ lineRoom) × (at + lineRoom ≤ length (now out)) ⌝ }
+    ensures { λ r. ⌜ (take r (now (out .exit)) ≡ take at (now (out .entry)) ++ textOf line) × (r ≤ at + lineRoom) ⌝ }
 {
     let n = line.length;
     let bytes = line.bytes;
@@ -177,25 +174,25 @@ fn put_line(line: Line, out: &mut [u8], at: usize) -> usize
 
 // Writes the printout of a card to the front of out, which has room for any, and returns how many bytes it has.
 fn put_lines(card: &[u8], out: &mut [u8]) -> usize
-    requires { ⌜ length (now out) ≡ 21056 ⌝ }
-    ensures { λ r. ⌜ (take r (now (out .exit)) ≡ printoutOf (now (card .entry))) × (r ≡ length (printoutOf (now (card .entry)))) × (r ≤ 21056) ⌝ }
+    requires { ⌜ length (now out) ≡ mostText ⌝ }
+    ensures { λ r. ⌜ (take r (now (out .exit)) ≡ printoutOf (now (card .entry))) × (r ≡ length (printoutOf (now (card .entry)))) × (r ≤ mostText) ⌝ }
 {
-    let mut play = begin(card);
+    let mut progress = begin(card);
     let mut at = 0;
     let mut k = 0;
     while k < MOST_LINES {
-        let next = next_line(play);
-        let after = next.play;
+        let next = next_line(progress);
+        let after = next.progress;
         let line = next.line;
         at = put_line(line, out, at);
-        play = after;
+        progress = after;
         k += 1;
     }
     at
 }
 
-// Writes the whole printout of a card to the front of out and returns how many bytes it has; what lies past it is kept. 15 where out is shorter, and
-// out is as it was.
+// Writes the whole printout of a card to the front of out and returns how many bytes it has; what lies past it is kept. TOO_SHORT where out is shorter,
+// and out is as it was.
 pub fn printout(card: &[u8], out: &mut [u8]) -> Written
     ensures { λ r. ⌜ (r, now (out .exit)) ≡ writtenOf (now (card .entry)) (now (out .entry)) ⌝ }
 {

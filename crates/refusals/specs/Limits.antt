@@ -4,6 +4,7 @@
 --   mostDegree                      == 6
 --   mostCoefficient, mostPoint      == 1,000,000 and 100: from minus this to this
 --   mostQuestions                   == 593, of a done run
+--   longestCard                     == 318, the bytes of the longest card
 use Prim.Native.Nat.{ℕ}
 
 abbrev pub mostPolynomials : ℕ
@@ -23,3 +24,6 @@ mostPoint = 100
 
 abbrev pub mostQuestions : ℕ
 mostQuestions = 593
+
+abbrev pub longestCard : ℕ
+longestCard = 318

@@ -54,6 +54,11 @@ pub const MOST_PRODUCTS: usize = 2 * MOST_ROWS; // of a round
 
 pub const MOST_QUESTIONS: usize = 593; // of a done run
 
+pub const LONGEST_CARD: usize = 4 // the header
+    + 2 * (MOST_POLYNOMIALS + 1) // the offsets
+    + MOST_POLYNOMIALS * (1 + 4 * (MOST_DEGREE + 1)) // the bodies
+    + MOST_POINTS;
+
 // The numbers that refuse a card.
 const CARD_NUMBERS: [u16; 6] = [
     WRONG_LENGTH,

@@ -1,4 +1,4 @@
--- Laws for the code of one row's counts: the test as the code makes it, and that every number on the way fits. Assumes nothing.
+-- Laws for the code of one row's counts: the test as the code makes it, and that every number on the way fits.
 use mathlib.Core.Path.{_≡_, refl}
 use mathlib.Core.Bool.{Bool, true, false, _&&_}
 use Prim.Native.Nat.{ℕ, _+_, _^_, _/_, _%_, _≤_, _<_}

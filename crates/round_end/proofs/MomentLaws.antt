@@ -1,16 +1,17 @@
 -- Laws for the calls of the solver: what a call on a proper list leaves, that no polynomials may be taken for one, and that a round leaves at
--- most 64 rows. Assumes nothing.
+-- most 64 rows.
 use mathlib.Core.Path.{_≡_, refl, sym, ap, _∙_}
 use mathlib.Core.Bool.{Bool, true, false, cond, _&&_}
 use mathlib.Core.Logic.{_⊎_, inl, inr}
 use mathlib.Core.Option.{Option, some, none}
 use mathlib.Core.List.{List, [], _∷_, map, append-nil}
-use Prim.Native.Nat.{ℕ, _*_, _^_, _≤_}
+use Prim.Native.Nat.{ℕ, _*_, _^_, _≤_, _<_}
 use native.Mathlib.Omega.{arith}
 use borrow.Author.Tests.{le-leb, lt-ltb, eq-eqb, ltb-true, leb-true}
 use lib.Dec.{eqb, leb, ltb}
 use lib.IntN.{ℤ}
 use lib.ListN.{length, take, drop, drop-of-length-le}
+use Rattle.refusals.specs.Limits.{mostPolynomials, mostPoints}
 use Rattle.signs.specs.Lists.{isBelow, isRising, times, upTo, keep, shift}
 use Rattle.signs.specs.Signs.{signOf, power, sign, weighted}
 use Rattle.signs.specs.Adapted.{signsOf, lows, adapted}
@@ -22,10 +23,10 @@ use Rattle.solver.specs.Solving.{answered, solveOf}
 use Rattle.solver.specs.declared.Solved.{Solved as Answer}
 use Rattle.solver.specs.declared.Solved.the-variants.{Found, Refused}
 use Rattle.solutions.proofs.SolverRight.{some-same, solver-found, solver-refused}
-use Rattle.rounds.specs.Rows.{maxPoints, Row, patterns, counts, rowsWith}
-use Rattle.rounds.specs.Moments.{allFair, extendedRows, byMoments}
+use Rattle.rounds.specs.Rows.{Row, patterns, counts, rowsWith}
+use Rattle.rounds.specs.Moments.{allFair, extendedRows, judged, byMoments}
 use Rattle.rounds.specs.RoundEnd.{allPositive, sum, properRows, roundRows}
-use Rattle.round_end.specs.Steps.{Solved, judged}
+use Rattle.round_end.specs.Steps.{Solved}
 use Rattle.round_end.proofs.StepLaws.{patterns-rowsWith, length-rowsWith, extended-few}
 
 -- ---- one polynomial in place of none
@@ -97,8 +98,8 @@ solver-one L ds r b e = go L refl
 abbrev pub StandsFor : ℕ → ℕ → Type 0
 StandsFor s i = ((i ≡ 0) × (s ≡ 1)) ⊎ ((i ≡ 0 → ⊥) × (s ≡ i))
 
-module _ (s i : ℕ) (L : List ℕ) (ds out : List ℤ) (h : StandsFor s i) (most : i ≤ 7) (r : isRising L ≡ true) (b : isBelow (3 ^ i) L ≡ true)
-    (few : length L ≤ 64) (e : length ds ≡ length L) (room : length out ≡ length L) where
+module _ (s i : ℕ) (L : List ℕ) (ds out : List ℤ) (h : StandsFor s i) (most : i < mostPolynomials) (r : isRising L ≡ true) (b : isBelow (3 ^ i) L ≡ true)
+    (few : length L ≤ mostPoints) (e : length ds ≡ length L) (room : length out ≡ length L) where
   solver-stands : solverOf s L ds ≡ solverOf i L ds
   solver-stands = go h
     where
@@ -126,7 +127,7 @@ module _ (s i : ℕ) (L : List ℕ) (ds out : List ℤ) (h : StandsFor s i) (mos
       rw (
         lt-ltb 0 s (bounds .0),
         le-leb s 8 (bounds .1),
-        le-leb (length L) 64 few,
+        le-leb (length L) mostPoints few,
         eq-eqb (length ds) (length L) e,
         r,
         below-stands,
@@ -168,7 +169,7 @@ solved-some (some vs) r ws S f = ap some (sym (S .1))
 module _ (i : ℕ) (P C : List ℕ) (ws : List ℤ) (h : length C ≡ length P) where
   moments-are : byMoments i (rowsWith P C) ws
       ≡ andThen (solverOf i P (take (length P) ws)) (λ es. andThen (solverOf i P (drop (length P) ws)) (λ gs. judged i (rowsWith P C) es gs))
-  unfolding byMoments judged
+  unfolding byMoments
   moments-are = rw (patterns-rowsWith P C h, length-rowsWith P C h) refl
 
   pub moments-first : solverOf i P (take (length P) ws) ≡ none → byMoments i (rowsWith P C) ws ≡ none
@@ -187,35 +188,36 @@ module _ (i : ℕ) (P C : List ℕ) (ws : List ℤ) (h : length C ≡ length P) 
 clash : (R : List Row) → none ≡ some R → ⊥
 clash R e = let z : _≡_ {A = ℕ} 0 1 = cc in omega arith
 
-module _ (i : ℕ) (R R′ : List Row) (most : sum (counts R) ≤ maxPoints) where
-  few-judged : (es gs : List ℤ) (b : Bool) → allFair R es gs ≡ b → cond b (some (extendedRows i R es gs)) none ≡ some R′ → length R′ ≤ maxPoints
+module _ (i : ℕ) (R R′ : List Row) (most : sum (counts R) ≤ mostPoints) where
+  few-judged : (es gs : List ℤ) (b : Bool) → allFair R es gs ≡ b → cond b (some (extendedRows i R es gs)) none ≡ some R′ → length R′ ≤ mostPoints
   few-judged es gs true t e = omega (arith, extended-few i R es gs t, ap length (some-same (extendedRows i R es gs) R′ e))
   few-judged es gs false t e = absurd (clash R′ e)
 
-  few-second : (es : List ℤ) (o : Option (List ℤ)) → andThen o (λ gs. cond (allFair R es gs) (some (extendedRows i R es gs)) none) ≡ some R′
-      → length R′ ≤ maxPoints
+  few-second : (es : List ℤ) (o : Option (List ℤ)) → andThen o (λ gs. judged i R es gs) ≡ some R′
+      → length R′ ≤ mostPoints
+  unfolding judged
   few-second es none e = absurd (clash R′ e)
   few-second es (some gs) e = few-judged es gs (allFair R es gs) refl e
 
   few-first : (o p : Option (List ℤ))
-      → andThen o (λ es. andThen p (λ gs. cond (allFair R es gs) (some (extendedRows i R es gs)) none)) ≡ some R′ → length R′ ≤ maxPoints
+      → andThen o (λ es. andThen p (λ gs. judged i R es gs)) ≡ some R′ → length R′ ≤ mostPoints
   few-first none p e = absurd (clash R′ e)
   few-first (some es) p e = few-second es p e
 
-proper-total : (i : ℕ) (R : List Row) → properRows i R ≡ true → sum (counts R) ≤ maxPoints
+proper-total : (i : ℕ) (R : List Row) → properRows i R ≡ true → sum (counts R) ≤ mostPoints
 unfolding properRows
 proper-total i R t =
     let c = allPositive (counts R) in
-    let m = leb (sum (counts R)) maxPoints in
+    let m = leb (sum (counts R)) mostPoints in
     let u = both-right (isRising (patterns R)) (isBelow (3 ^ i) (patterns R) && (c && m)) t in
-    leb-true (sum (counts R)) maxPoints (both-right c m (both-right (isBelow (3 ^ i) (patterns R)) (c && m) u))
+    leb-true (sum (counts R)) mostPoints (both-right c m (both-right (isBelow (3 ^ i) (patterns R)) (c && m) u))
 
 -- at most 64
-pub roundRows-few : (i : ℕ) (R : List Row) (ws : List ℤ) (R′ : List Row) → roundRows i R ws ≡ some R′ → length R′ ≤ maxPoints
+pub roundRows-few : (i : ℕ) (R : List Row) (ws : List ℤ) (R′ : List Row) → roundRows i R ws ≡ some R′ → length R′ ≤ mostPoints
 unfolding roundRows byMoments
 roundRows-few i R ws R′ e = go (properRows i R && eqb (length ws) (2 * length R)) refl e
   where
-    go : (b : Bool) → properRows i R && eqb (length ws) (2 * length R) ≡ b → cond b (byMoments i R ws) none ≡ some R′ → length R′ ≤ maxPoints
+    go : (b : Bool) → properRows i R && eqb (length ws) (2 * length R) ≡ b → cond b (byMoments i R ws) none ≡ some R′ → length R′ ≤ mostPoints
     go true t f =
         few-first i R R′ (proper-total i R (both-left (properRows i R) (eqb (length ws) (2 * length R)) t))
         (solverOf i (patterns R) (take (length R) ws)) (solverOf i (patterns R) (drop (length R) ws)) f

@@ -1,20 +1,22 @@
--- Laws for the loops of a round's end: a test and a list of rows from place k on, as one more element is passed. Assumes nothing.
+-- Laws for the loops of a round's end: a test and a list of rows from place k on, as one more element is passed.
 use mathlib.Core.Path.{_≡_, refl, sym, ap, _∙_}
 use mathlib.Core.Bool.{Bool, true, false, _&&_}
 use mathlib.Core.List.{List, [], _∷_, _++_}
 use Prim.Native.Nat.{ℕ, zero, suc, _+_, _*_, _-_, _^_, _≤_, _<_}
-use native.Mathlib.Nat.{mul-le-mul-right, zero-mul, one-mul, zero-add, add-zero, add-suc, suc-add}
+use native.Mathlib.Nat.{mul-le-mul-right, zero-mul, one-mul}
 use native.Mathlib.Numerals.{add-one}
 use native.Mathlib.Omega.{arith}
 use borrow.Author.Tests.{lt-ltb, le-ltb, le-leb, lt-leb, leb-true, leb-false}
 use lib.Dec.{leb, ltb}
 use lib.IntN.{ℤ, pos}
-use lib.ListN.{length, getD, take, drop, set, drop-of-length-le, length-append}
-use lib.Seq.{drop-cons, sets, sets-eq, take-at}
+use lib.ListN.{length, getD, take, drop, drop-of-length-le, length-append}
+use lib.Seq.{drop-cons, sets}
+use Rattle.refusals.specs.Limits.{mostPolynomials, mostPoints}
 use Rattle.integers.proofs.Parts.{same-test}
 use Rattle.signs.specs.Lists.{Below, isBelow, isRising}
 use Rattle.signs.proofs.Orders.{both-left, both-right, below-from}
-use Rattle.rounds.specs.Rows.{maxPoints, Row, patterns, counts, rowsWith, rowIf}
+use Rattle.adapted.proofs.Stores.{sets-append, take-sets}
+use Rattle.rounds.specs.Rows.{Row, patterns, counts, rowsWith, rowIf}
 use Rattle.rounds.specs.Moments.{withZero, withPlus, withMinus, fair, allFair, thirds, extendedRows}
 use Rattle.rounds.specs.RoundEnd.{allPositive, sum, properRows}
 use Rattle.round_end.specs.Steps.{withSign, signRows, properCounts}
@@ -200,13 +202,6 @@ extended-few i R es gs t =
 
 -- ---- lists written one after the other
 
-pub sets-append : {A : Type 0} (xs ys l : List A) (i : ℕ) → sets l i (xs ++ ys) ≡ sets (sets l i xs) (i + length xs) ys
-sets-append [] ys l i = rw add-zero
-sets-append (x ∷ xs) ys l i = sets-append xs ys (set l i x) (suc i) ∙ rw (add-suc, suc-add)
-
-pub take-sets : {A : Type 0} (xs l : List A) (n : ℕ) → n ≡ length xs → n ≤ length l → take n (sets l 0 xs) ≡ xs
-take-sets xs l n e h = rw (sets-eq xs l 0 (omega (arith, zero-add (length xs)))) (take-at xs _ n (sym e))
-
 -- a list of rows T, of which A is written from k on and B is left
 pub put-length : (A B T : List Row) (k k′ : ℕ) → T ≡ A ++ B → k′ ≡ k + length A → k′ + length B ≡ k + length T
 put-length A B T k k′ e next = omega (arith, ap length e, length-append A B)
@@ -254,8 +249,8 @@ put-all-counts = put-three counts counts-append length-counts
 pub record Proper (i : ℕ) (P C : List ℕ) : Type 0 where
   pub rising : isRising P ≡ true
   pub below : isBelow (3 ^ i) P ≡ true
-  pub total : sum C ≤ 64
-  pub few : length P ≤ 64
+  pub total : sum C ≤ mostPoints
+  pub few : length P ≤ mostPoints
 
 pub proper-from : (i : ℕ) (P C : List ℕ) → length C ≡ length P → properRows i (rowsWith P C) ≡ true → Proper i P C
 unfolding properCounts
@@ -263,8 +258,8 @@ proper-from i P C e t =
     let u = sym (proper-is i P C e) ∙ t in
     let v = both-right (isRising P) (isBelow (3 ^ i) P && properCounts C) u in
     let w = both-right (isBelow (3 ^ i) P) (properCounts C) v in
-    let p = both-left (allPositive C) (leb (sum C) maxPoints) w in
-    let q = leb-true (sum C) maxPoints (both-right (allPositive C) (leb (sum C) maxPoints) w) in
+    let p = both-left (allPositive C) (leb (sum C) mostPoints) w in
+    let q = leb-true (sum C) mostPoints (both-right (allPositive C) (leb (sum C) mostPoints) w) in
     record {
       rising = both-left (isRising P) (isBelow (3 ^ i) P && properCounts C) u;
       below = both-left (isBelow (3 ^ i) P) (properCounts C) v;
@@ -278,9 +273,9 @@ pub record Ready (w : ℕ) (P C : List ℕ) (es gs : List ℤ) : Type 0 where
   pub below : Below w P
   pub fair : allFair (rowsWith P C) es gs ≡ true
   pub room :
-      length (signRows w 0 (rowsWith P C) es gs) + length (signRows w 1 (rowsWith P C) es gs) + length (signRows w 2 (rowsWith P C) es gs) ≤ 64
+      length (signRows w 0 (rowsWith P C) es gs) + length (signRows w 1 (rowsWith P C) es gs) + length (signRows w 2 (rowsWith P C) es gs) ≤ mostPoints
 
-pub ready : (i w : ℕ) (P C : List ℕ) (es gs : List ℤ) → i ≤ 7 → w ≡ 3 ^ i → length C ≡ length P → properRows i (rowsWith P C) ≡ true
+pub ready : (i w : ℕ) (P C : List ℕ) (es gs : List ℤ) → i < mostPolynomials → w ≡ 3 ^ i → length C ≡ length P → properRows i (rowsWith P C) ≡ true
     → allFair (rowsWith P C) es gs ≡ true → Ready w P C es gs
 ready i w P C es gs h e l t u =
     let R = rowsWith P C in
@@ -289,7 +284,7 @@ ready i w P C es gs h e l t u =
     let B = signRows w 1 R es gs in
     let D = signRows w 2 R es gs in
     record {
-      base = omega (arith, three-mono i 7 h);
+      base = omega (arith, three-mono i 7 (omega arith));
       below = rw e (below-from (3 ^ i) P (p .below));
       fair = u;
       room =

@@ -1,4 +1,4 @@
--- What a call that ends a round leaves. Assumes nothing: these are definitions.
+-- What a call that ends a round leaves.
 --
 --   Left o r P′ C′         == the rows o after the round, or that there are none: their number r, their patterns and their counts
 --   Ended i P C ws r P′ C′ == the same after round i + 1, from the rows before it, in two lists P and C, and the round's answers ws

@@ -7,14 +7,16 @@ ghost use mathlib.Core.Bool.{true};
 ghost use Prim.Native.Nat.{_+_, _*_, _^_, _≤_, _<_};
 ghost use lib.ListN.{length};
 ghost use lib.Seq.{sets};
+ghost use Rattle.refusals.specs.Limits.{mostPolynomials, mostPoints};
 ghost use Rattle.signs.specs.Lists.{Below, isBelow, isRising};
 ghost use Rattle.solutions.specs.Solver.{solverOf};
 ghost use Rattle.rounds.specs.Rows.{patterns as patternsOf, counts as countsOf, rowsWith, rowIf};
-ghost use Rattle.rounds.specs.Moments.{fair, allFair, byMoments};
+ghost use Rattle.rounds.specs.Moments.{fair, allFair, judged, byMoments};
 ghost use Rattle.rounds.specs.RoundEnd.{properRows};
 ghost use Rattle.round_end.specs.Outcome.{Left, Ended};
-ghost use Rattle.round_end.specs.Steps.{withSign, signRows, properCounts, Solved as SolvedBy, judged};
+ghost use Rattle.round_end.specs.Steps.{withSign, signRows, properCounts, Solved as SolvedBy};
 use integers::within;
+use refusals::MOST_ROWS;
 use signs::power;
 use solutions::below;
 use solutions::rising;
@@ -28,7 +30,7 @@ pub enum Next {
 }
 
 // What the counts may add up to.
-const MOST_POINTS: u16 = 64;
+const MOST_POINTS: u16 = refusals::MOST_POINTS as u16;
 
 // ---- the rows before
 
@@ -54,7 +56,7 @@ fn proper_counts(counts: &[u16]) -> bool
 
 // Whether these are rows of i polynomials as a round leaves them.
 fn proper_rows(i: usize, patterns: &[u16], counts: &[u16]) -> bool
-    requires { ⌜ (i ≤ 7) × (length (now counts) ≡ length (now patterns)) ⌝ }
+    requires { ⌜ (i < mostPolynomials) × (length (now counts) ≡ length (now patterns)) ⌝ }
     ensures { λ r. ⌜ r ≡ properRows i (rowsWith (now (patterns .entry)) (now (counts .entry))) ⌝ }
 {
     if !rising(patterns) {
@@ -71,7 +73,7 @@ fn proper_rows(i: usize, patterns: &[u16], counts: &[u16]) -> bool
 // Solves for the numbers on a rising list of patterns of i polynomials: whether there is a solution, and the solution in out.
 // With no polynomials the list holds at most the pattern 0, and has the same solution for one.
 fn moment(i: usize, patterns: &[u16], numbers: &[i64], out: &mut [i64]) -> bool
-    requires { ⌜ (i ≤ 7) × (isRising (now patterns) ≡ true) × (isBelow (3 ^ i) (now patterns) ≡ true) × (length (now patterns) ≤ 64) ⌝ }
+    requires { ⌜ (i < mostPolynomials) × (isRising (now patterns) ≡ true) × (isBelow (3 ^ i) (now patterns) ≡ true) × (length (now patterns) ≤ mostPoints) ⌝ }
     requires { ⌜ (length (now numbers) ≡ length (now patterns)) × (length (now out) ≡ length (now patterns)) ⌝ }
     ensures { λ r. ⌜ SolvedBy (solverOf i (now (patterns .entry)) (now (numbers .entry))) r (now (out .exit)) ⌝ }
 {
@@ -188,8 +190,8 @@ fn judge(
     new: &mut [u16],
     numbers: &mut [u16],
 ) -> Next
-    requires { ⌜ (i ≤ 7) × (length (now counts) ≡ length (now patterns)) × (length (now es) ≡ length (now patterns)) × (length (now gs) ≡ length (now patterns)) ⌝ }
-    requires { ⌜ (properRows i (rowsWith (now patterns) (now counts)) ≡ true) × (64 ≤ length (now new)) × (64 ≤ length (now numbers)) ⌝ }
+    requires { ⌜ (i < mostPolynomials) × (length (now counts) ≡ length (now patterns)) × (length (now es) ≡ length (now patterns)) × (length (now gs) ≡ length (now patterns)) ⌝ }
+    requires { ⌜ (properRows i (rowsWith (now patterns) (now counts)) ≡ true) × (mostPoints ≤ length (now new)) × (mostPoints ≤ length (now numbers)) ⌝ }
     ensures { λ r. ⌜ Left (judged i (rowsWith (now (patterns .entry)) (now (counts .entry))) (now (es .entry)) (now (gs .entry))) r (now (new .exit)) (now (numbers .exit)) ⌝ }
 {
     if !all_fair(patterns, counts, es, gs) {
@@ -213,9 +215,9 @@ fn by_moments(
     new: &mut [u16],
     numbers: &mut [u16],
 ) -> Next
-    requires { ⌜ (i ≤ 7) × (length (now counts) ≡ length (now patterns)) × (length (now answers) ≡ 2 * length (now patterns)) ⌝ }
+    requires { ⌜ (i < mostPolynomials) × (length (now counts) ≡ length (now patterns)) × (length (now answers) ≡ 2 * length (now patterns)) ⌝ }
     requires { ⌜ (length (now es) ≡ length (now patterns)) × (length (now gs) ≡ length (now patterns)) ⌝ }
-    requires { ⌜ (properRows i (rowsWith (now patterns) (now counts)) ≡ true) × (64 ≤ length (now new)) × (64 ≤ length (now numbers)) ⌝ }
+    requires { ⌜ (properRows i (rowsWith (now patterns) (now counts)) ≡ true) × (mostPoints ≤ length (now new)) × (mostPoints ≤ length (now numbers)) ⌝ }
     ensures { λ r. ⌜ Left (byMoments i (rowsWith (now (patterns .entry)) (now (counts .entry))) (now (answers .entry))) r (now (new .exit)) (now (numbers .exit)) ⌝ }
 {
     let n = patterns.len();
@@ -238,7 +240,7 @@ pub fn next_rows(
     new: &mut [u16],
     numbers: &mut [u16],
 ) -> Next
-    requires { ⌜ (i ≤ 7) × (length (now counts) ≡ length (now patterns)) × (64 ≤ length (now new)) × (64 ≤ length (now numbers)) ⌝ }
+    requires { ⌜ (i < mostPolynomials) × (length (now counts) ≡ length (now patterns)) × (mostPoints ≤ length (now new)) × (mostPoints ≤ length (now numbers)) ⌝ }
     ensures { λ r. ⌜ Ended i (now (patterns .entry)) (now (counts .entry)) (now (answers .entry)) r (now (new .exit)) (now (numbers .exit)) ⌝ }
 {
     if !proper_rows(i, patterns, counts) {
@@ -248,8 +250,8 @@ pub fn next_rows(
     if answers.len() != 2 * n {
         return Next::None;
     }
-    let mut es = [0i64; 64];
-    let mut gs = [0i64; 64];
+    let mut es = [0i64; MOST_ROWS];
+    let mut gs = [0i64; MOST_ROWS];
     by_moments(
         i,
         patterns,

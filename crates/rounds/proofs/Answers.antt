@@ -1,4 +1,4 @@
--- What holds of the rows that the answers give: they fit all answers so far, and no other counts do. Assumes nothing.
+-- What holds of the rows that the answers give: they fit all answers so far, and no other counts do.
 use mathlib.Core.Path.{_≡_, refl, sym, ap, ap₂, _∙_}
 use mathlib.Core.Logic.{_⊎_, inl, inr}
 use mathlib.Core.List.{List, [], _∷_, _++_}
@@ -8,6 +8,7 @@ use native.Mathlib.Nat.{mul-le-mul-right}
 use native.Mathlib.Decide.{decLt}
 use lib.IntN.{ℤ, pos}
 use lib.ListN.{length, replicate, length-append, length-replicate}
+use Rattle.refusals.specs.Limits.{mostPoints}
 use Rattle.integers.proofs.Diff.{Diff, diff-one}
 use Rattle.signs.specs.Adapted.{adapted, lows, signsOf, extended}
 use Rattle.signs.specs.Lists.{times, Below, Rising, shift}
@@ -22,7 +23,7 @@ use Rattle.signs.proofs.Size.{Under, below-under, as-many, adapted-rising, risi
 use Rattle.signs.proofs.Tallies.{tally, Agree, none, plus, tally-plus}
 use Rattle.signs.proofs.Unique.{unique}
 use Rattle.rounds.specs.Rounds.{roundOf, Counts, Answered, Determined}
-use Rattle.rounds.specs.Rows.{maxPoints, Row, patterns, points, Positive, IsRows, rowIf, Fits}
+use Rattle.rounds.specs.Rows.{Row, patterns, points, Positive, IsRows, rowIf, Fits}
 use Rattle.rounds.proofs.Restrict.{three-pos, sign-drop, restrict, restrict-below, restrict-count, query-drop, fits-same, fits-move, fits-left}
 use Rattle.rounds.proofs.RowLaws.{times-single, no-count, no-pattern, rowIf-same, points-in, patterns-in, points-below, length-patterns}
 
@@ -136,7 +137,7 @@ pub record Facts (i : ℕ) (zs : List ℤ) (ps : List ℕ) (R : List Row) : Type
   pub few : length ps ≤ 2 * length R * i + 1
   -- the first answer is the number of points
   pub n : ℕ
-  pub small : n ≤ maxPoints
+  pub small : n ≤ mostPoints
   pub later-answers : List ℤ
   pub later-products : List ℕ
   pub first-answer : zs ≡ pos n ∷ later-answers
@@ -163,7 +164,7 @@ all-zero (x ∷ E) b =
 pos-inj : (m n : ℕ) → pos m ≡ pos n → m ≡ n
 pos-inj m n e = cc
 
-facts-0 : (n : ℕ) → n ≤ maxPoints → Facts 0 (pos n ∷ []) (0 ∷ []) (rowIf 0 n)
+facts-0 : (n : ℕ) → n ≤ mostPoints → Facts 0 (pos n ∷ []) (0 ∷ []) (rowIf 0 n)
 unfolding Fits
 facts-0 n h =
     record {

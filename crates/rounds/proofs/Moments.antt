@@ -1,5 +1,4 @@
 -- Two questions to the solver on the rows before a round give the rows after it: `byMoments` finds them exactly where there are some.
--- Assumes nothing.
 use mathlib.Core.Path.{_≡_, refl, sym, ap, ap₂, _∙_, subst}
 use mathlib.Core.Logic.{_≢_, _⊎_, inl, inr}
 use mathlib.Core.Bool.{Bool, true, false, cond, _&&_}
@@ -12,6 +11,7 @@ use lib.Dec.{eqb, eqb→eq}
 use lib.IntN.{ℤ, pos, negsuc, natAbs, subℕ, _+ℤ_, _-ℤ_}
 use lib.Signed.{leZ}
 use lib.ListN.{length, take, drop, replicate, length-append, length-replicate, length-take, length-drop, take-append-drop}
+use Rattle.refusals.specs.Limits.{mostPoints}
 use Rattle.integers.specs.Sums.{sumAbs}
 use Rattle.integers.proofs.Parts.{up, dn, sum, dif, true-leZ, int}
 use Rattle.integers.proofs.Tests.{T-of}
@@ -29,10 +29,10 @@ use Rattle.solutions.specs.Solver.{Weight, andThen, values, solverOf}
 use Rattle.solutions.proofs.Solve.{tally-diff}
 use Rattle.solutions.proofs.SolverRight.{values-length, values-weight, some-same, solver-found}
 use Rattle.signs.proofs.Weights.{weighted-tally, diff-parts, part, part-first, part-later, part-out}
-use Rattle.rounds.specs.Rows.{maxPoints, Row, patterns, points, Positive, IsRows, IsAt, rowIf, Fits}
+use Rattle.rounds.specs.Rows.{Row, patterns, points, Positive, IsRows, IsAt, rowIf, Fits}
 use Rattle.rounds.specs.Rounds.{roundOf}
 use Rattle.rounds.specs.NextRows.{NextRows}
-use Rattle.rounds.specs.Moments.{withZero, withPlus, withMinus, fair, allFair, thirds, extendedRows, byMoments}
+use Rattle.rounds.specs.Moments.{withZero, withPlus, withMinus, fair, allFair, thirds, extendedRows, judged, byMoments}
 use Rattle.rounds.proofs.RowLaws.{zero-unless, no-points, points-same, points-other, points-append, patterns-append, rowIf-same, rowIf-other, rowIf-positive, rowIf-rising, rowIf-in, positive-append, no-count, points-below, length-patterns}
 use Rattle.rounds.proofs.Realized.{at-head, at-tail, at-in, count-of}
 use Rattle.rounds.proofs.Restrict.{fits-append, fits-left, fits-right}
@@ -404,7 +404,7 @@ values-small w (r ∷ R) h =
 
 -- ---- the end of a round
 
-module _ (i : ℕ) (R₀ : List Row) (ws : List ℤ) (rows : IsRows i R₀) (few : length (points R₀) ≤ maxPoints)
+module _ (i : ℕ) (R₀ : List Row) (ws : List ℤ) (rows : IsRows i R₀) (few : length (points R₀) ≤ mostPoints)
     (full : length ws ≡ length (roundOf i (patterns R₀))) where
   abbrev P : List ℕ
   P = patterns R₀
@@ -546,7 +546,7 @@ module _ (i : ℕ) (R₀ : List Row) (ws : List ℤ) (rows : IsRows i R₀) (few
             (unfold fold in omega (arith, diff 1)) (unfold fold in omega (arith, diff 2))
 
     pub to-some : byMoments i R₀ ws ≡ some (extendedRows i R₀ (values (W 1) P) (values (W 2) P))
-    unfolding byMoments
+    unfolding byMoments judged
     to-some =
         rw (
           solver-found i P us (posed us us-length) (values (W 1) P) .1 first-half,
@@ -558,7 +558,7 @@ module _ (i : ℕ) (R₀ : List Row) (ws : List ℤ) (rows : IsRows i R₀) (few
   -- ---- what is found
 
   pub from-some : (R : List Row) → byMoments i R₀ ws ≡ some R → NextRows i R₀ ws R
-  unfolding byMoments
+  unfolding byMoments judged
   from-some R e = first (solverOf i P us) refl e
     where
       third : (es gs : List ℤ) → Solution i P us es → Solution i P vs gs → (b : Bool) → allFair R₀ es gs ≡ b
@@ -567,11 +567,11 @@ module _ (i : ℕ) (R₀ : List Row) (ws : List ℤ) (rows : IsRows i R₀) (few
       third es gs S S′ false t k = let x : _≡_ {A = ℕ} 0 1 = cc in absurd (omega arith)
 
       second : (es : List ℤ) → Solution i P us es → (o : Option (List ℤ)) → solverOf i P vs ≡ o
-          → andThen o (λ gs. cond (allFair R₀ es gs) (some (extendedRows i R₀ es gs)) none) ≡ some R → NextRows i R₀ ws R
+          → andThen o (λ gs. judged i R₀ es gs) ≡ some R → NextRows i R₀ ws R
       second es S none f k = let x : _≡_ {A = ℕ} 0 1 = cc in absurd (omega arith)
       second es S (some gs) f k = third es gs S (solver-found i P vs (posed vs vs-length) gs .0 f) (allFair R₀ es gs) refl k
 
       first : (o : Option (List ℤ)) → solverOf i P us ≡ o
-          → andThen o (λ es. andThen (solverOf i P vs) (λ gs. cond (allFair R₀ es gs) (some (extendedRows i R₀ es gs)) none)) ≡ some R → NextRows i R₀ ws R
+          → andThen o (λ es. andThen (solverOf i P vs) (λ gs. judged i R₀ es gs)) ≡ some R → NextRows i R₀ ws R
       first none f k = let x : _≡_ {A = ℕ} 0 1 = cc in absurd (omega arith)
       first (some es) f k = second es (solver-found i P us (posed us us-length) es .0 f) (solverOf i P vs) refl k

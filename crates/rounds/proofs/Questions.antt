@@ -1,5 +1,5 @@
 -- How many products a run asks: 1 + 2 × (r(0) + .. + r(s−1)) where r(i) is the number of rows after round i, at most 3^i and at most 64.
--- So with 8 polynomials it is at most 593. Assumes nothing.
+-- So with 8 polynomials it is at most 593.
 use mathlib.Core.Path.{_≡_, refl, sym, ap, _∙_, subst}
 use mathlib.Core.Logic.{_≢_}
 use mathlib.Core.Bool.{cond}
@@ -10,10 +10,11 @@ use native.Mathlib.Decide.{ℕ-discrete}
 use lib.Dec.{eqb}
 use lib.IntN.{ℤ, pos}
 use lib.ListN.{length, replicate, length-append, length-replicate}
+use Rattle.refusals.specs.Limits.{mostPoints, mostPolynomials}
 use Rattle.integers.proofs.Tests.{eqb-same, eqb-other}
 use Rattle.signs.specs.Lists.{times}
 use Rattle.signs.proofs.Size.{total, total-mono, rising-length}
-use Rattle.rounds.specs.Rows.{maxPoints, maxPolynomials, Row, patterns, points, Positive, rowIf}
+use Rattle.rounds.specs.Rows.{Row, patterns, points, Positive, rowIf}
 use Rattle.rounds.specs.Rounds.{roundOf, Determined, RowsAfter}
 use Rattle.rounds.proofs.RowLaws.{length-patterns}
 use Rattle.rounds.proofs.Answers.{Facts, facts, round-length}
@@ -79,7 +80,7 @@ pub one-row : (i k : ℕ) (zs : List ℤ) (ps : List ℕ) (R : List Row) → Det
 unfolding Determined
 one-row i k zs ps R d h (a, many) = go (a .determined)
   where
-    go : (n : ℕ) × (n ≤ maxPoints) × (a .before ≡ pos n ∷ []) × (a .asked ≡ 0 ∷ []) × (a .rows ≡ rowIf 0 n) → k ≡ 1
+    go : (n : ℕ) × (n ≤ mostPoints) × (a .before ≡ pos n ∷ []) × (a .asked ≡ 0 ∷ []) × (a .rows ≡ rowIf 0 n) → k ≡ 1
     go (zero, m, e, f, g) = absurd (h (first-zero i zs (a .now) ps R d (a .answers ∙ ap (λ (l : List ℤ). l ++ a .now) e)))
     go (suc n, m, e, f, g) = sym many ∙ ap length g ∙ (unfold rowIf in refl)
 
@@ -98,7 +99,7 @@ rows-points (r ∷ R) p =
       length-replicate (r .count) (r .pattern),
     )
 
-pub rows-most : (i : ℕ) (zs : List ℤ) (ps : List ℕ) (R : List Row) → Determined i zs ps R → length R ≤ maxPoints
+pub rows-most : (i : ℕ) (zs : List ℤ) (ps : List ℕ) (R : List Row) → Determined i zs ps R → length R ≤ mostPoints
 rows-most i zs ps R d =
     let F : Facts i zs ps R = facts i zs ps R d in
     omega (arith, rows-points R (F .rows .positive), rows-oracle i i zs ps R (omega arith) F .0 .held)
@@ -120,7 +121,7 @@ rows-three i zs ps R d =
 
 -- the most rows after round i
 most : ℕ → ℕ
-most i = min (3 ^ i) maxPoints
+most i = min (3 ^ i) mostPoints
 
 after-most : (i k : ℕ) (zs : List ℤ) → RowsAfter i zs k → k ≤ most i
 unfolding most
@@ -146,6 +147,6 @@ unfolding total most
 most-8 = refl
 
 -- with at most 8 polynomials
-pub at-most-593 : (s k : ℕ) (zs : List ℤ) (r : ℕ → ℕ) → s ≤ maxPolynomials → ((i : ℕ) → i < s → RowsAfter i zs (r i)) → k ≡ 1 + 2 * total r s → k ≤ 593
+pub at-most-593 : (s k : ℕ) (zs : List ℤ) (r : ℕ → ℕ) → s ≤ mostPolynomials → ((i : ℕ) → i < s → RowsAfter i zs (r i)) → k ≡ 1 + 2 * total r s → k ≤ 593
 at-most-593 s k zs r h each e =
     omega (arith, total-mono r most s (λ i b. after-most i (r i) zs (each i b)), total-longer most s 8 h, most-8)

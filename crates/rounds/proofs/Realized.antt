@@ -1,4 +1,4 @@
--- The realized list in demand 3's own words: "each pattern that occurs, once, in rising order, with its true count". Assumes nothing.
+-- The realized list in demand 3's own words: "each pattern that occurs, once, in rising order, with its true count".
 use mathlib.Core.Path.{_≡_, refl, sym, ap, _∙_}
 use mathlib.Core.List.{List, [], _∷_}
 use Prim.Native.Nat.{ℕ, suc, _+_, _^_, _<_, _≤_}

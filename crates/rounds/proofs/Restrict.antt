@@ -1,4 +1,4 @@
--- Later polynomials taken off: a product of P1 .. Pi sees only the low digits of a pattern. Assumes nothing.
+-- Later polynomials taken off: a product of P1 .. Pi sees only the low digits of a pattern.
 use mathlib.Core.Path.{_≡_, refl, sym, ap, ap₂, _∙_, subst}
 use mathlib.Core.Logic.{_≢_}
 use mathlib.Core.List.{List, [], _∷_, _++_}

@@ -1,5 +1,4 @@
 -- Theorem: the end of a round is right. `roundRows` gives the rows after a round wherever there are some, and none where there are none.
--- Assumes nothing.
 use mathlib.Core.Path.{_≡_, refl, sym, _∙_}
 use mathlib.Core.Bool.{true, cond, _&&_}
 use mathlib.Core.Option.{Option, some, none}
@@ -10,10 +9,11 @@ use borrow.Author.Tests.{lt-ltb}
 use lib.Dec.{eqb, leb, ltb, le→leb, eqb-refl}
 use lib.IntN.{ℤ}
 use lib.ListN.{length, replicate, length-append, length-replicate}
+use Rattle.refusals.specs.Limits.{mostPoints}
 use Rattle.integers.proofs.Tests.{is-true}
 use Rattle.signs.specs.Lists.{isBelow, isRising}
 use Rattle.signs.proofs.Orders.{both, below-test, rising-test}
-use Rattle.rounds.specs.Rows.{maxPoints, Row, patterns, counts, points, Positive, IsRows}
+use Rattle.rounds.specs.Rows.{Row, patterns, counts, points, Positive, IsRows}
 use Rattle.rounds.specs.Rounds.{roundOf}
 use Rattle.rounds.specs.NextRows.{RightRows}
 use Rattle.rounds.specs.Moments.{byMoments}
@@ -33,7 +33,7 @@ sum-points (r ∷ R) =
     omega (arith, length-append (replicate (r .count) (r .pattern)) (points R), length-replicate (r .count) (r .pattern), sum-points R)
 
 -- rows as a round leaves them pass the test
-pub proper-test : (i : ℕ) (R : List Row) → IsRows i R → length (points R) ≤ maxPoints → properRows i R ≡ true
+pub proper-test : (i : ℕ) (R : List Row) → IsRows i R → length (points R) ≤ mostPoints → properRows i R ≡ true
 unfolding properRows
 proper-test i R rows few =
     rw (
@@ -41,12 +41,12 @@ proper-test i R rows few =
       below-test (3 ^ i) (patterns R) (rows .below),
       positive-test R (rows .positive),
       sum-points R,
-      is-true (leb (length (points R)) maxPoints) (le→leb (length (points R)) maxPoints few),
+      is-true (leb (length (points R)) mostPoints) (le→leb (length (points R)) mostPoints few),
     )
     refl
 
 -- on them, with all answers of a round, the two questions to the solver are asked
-asked : (i : ℕ) (R₀ : List Row) (ws : List ℤ) → IsRows i R₀ → length (points R₀) ≤ maxPoints → length ws ≡ length (roundOf i (patterns R₀))
+asked : (i : ℕ) (R₀ : List Row) (ws : List ℤ) → IsRows i R₀ → length (points R₀) ≤ mostPoints → length ws ≡ length (roundOf i (patterns R₀))
     → roundRows i R₀ ws ≡ byMoments i R₀ ws
 unfolding roundRows
 asked i R₀ ws rows few full =

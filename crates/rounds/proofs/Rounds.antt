@@ -1,5 +1,4 @@
 -- How rounds follow one another: rows are fixed by the answers, a round's counts make the next rows, and an oracle that fits has such counts.
--- Assumes nothing.
 use mathlib.Core.Path.{_≡_, refl, sym, ap, ap₂, _∙_, subst}
 use mathlib.Core.List.{List, [], _∷_, _++_, append-assoc, append-nil, head-eq-of-cons-eq, tail-eq-of-cons-eq}
 use Prim.Native.Nat.{ℕ, zero, suc, _+_, _*_, _-_, _^_, _%_, _<_, _≤_}
@@ -8,6 +7,7 @@ use native.Mathlib.Decide.{ℕ-discrete, decLt}
 use lib.IntN.{ℤ, pos, negsuc, natAbs}
 use lib.ListN.{length, take, drop, length-append, length-take, take-append-drop}
 use lib.Seq.{take-append-le}
+use Rattle.refusals.specs.Limits.{mostPoints}
 use Rattle.integers.proofs.Diff.{Diff, diff-add}
 use Rattle.signs.specs.Adapted.{adapted}
 use Rattle.signs.specs.Lists.{times, Below, Rising, shift}
@@ -20,7 +20,7 @@ use Rattle.signs.proofs.Tallies.{Agree}
 use Rattle.signs.proofs.Weights.{IsSign, sign-0, sign-+, sign-−, sign-sign}
 use Rattle.rounds.specs.NextRows.{NextRows}
 use Rattle.rounds.specs.Rounds.{roundOf, Counts, Answered, Determined, Past, AtEnd}
-use Rattle.rounds.specs.Rows.{maxPoints, Row, patterns, points, Positive, IsRows, rowIf, rowsOf, Oracle, realized, Fits}
+use Rattle.rounds.specs.Rows.{Row, patterns, points, Positive, IsRows, rowIf, rowsOf, Oracle, realized, Fits}
 use Rattle.rounds.proofs.Answers.{Facts, facts, query-zero, round-low}
 use Rattle.rounds.proofs.Restrict.{three-mono, restrict, restrict-below, restrict-same, restrict-count, query-low, query-drop, query-ext, fits-move, fits-append, fits-left, fits-right}
 use Rattle.rounds.proofs.RowLaws.{zero-unless, rows-ext, rowsOf-rows, rowsOf-in, points-in, patterns-in, points-below}
@@ -193,7 +193,7 @@ rows-oracle s i zs ps R h F =
     b : Below (3 ^ i) (points R)
     b = points-below (3 ^ i) R (F .rows .below)
 
-    held : length (points R) ≤ maxPoints
+    held : length (points R) ≤ mostPoints
     held = omega (arith, fits-first i (points R) ps zs (F .n) (F .later-answers) (F .later-products) (F .first-answer) (F .first-product) (F .fits), F .small)
 
 -- ---- the end of a round

@@ -1,4 +1,4 @@
--- Rows and counts: rows are fixed by their counts, and every count function has rows. Assumes nothing.
+-- Rows and counts: rows are fixed by their counts, and every count function has rows.
 use mathlib.Core.Path.{_≡_, refl, sym, ap, ap₂, _∙_}
 use mathlib.Core.Logic.{_≢_}
 use mathlib.Core.List.{List, [], _∷_, _++_}

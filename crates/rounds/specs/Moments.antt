@@ -1,5 +1,4 @@
 -- The end of a round by two questions to the solver on the rows before it. That it is right is `roundRows-right` of proofs/.
--- Assumes nothing: these are definitions.
 --
 -- A row of count d, extended by the three signs of the next polynomial, has counts with sign 0, + and −. Let e be + less −, and g + and −.
 --
@@ -7,6 +6,8 @@
 --   fair d e g                    == the test that they are whole numbers, 0 or more
 --   allFair R es gs               == the same for each row of R, with e and g in es and gs
 --   thirds c f R es gs            == the rows of R with c added to the pattern and the count f of d, e and g, those with a count above 0
+--   extendedRows i R es gs        == the rows of R extended by each of the three signs
+--   judged i R es gs              == the rows of round i + 1 from es and gs; none where a count is no whole number, 0 or more
 --   byMoments i R₀ ws             == the rows of round i + 1: es solve for the first half of its answers, gs for the second
 use mathlib.Core.Bool.{Bool, true, false, cond, _&&_}
 use mathlib.Core.Option.{Option, some, none}
@@ -46,8 +47,11 @@ thirds c f (r ∷ R) (e ∷ es) (g ∷ gs) = rowIf (r .pattern + c) (f (r .count
 unfoldable pub extendedRows : ℕ → List Row → List ℤ → List ℤ → List Row
 extendedRows i R es gs = thirds 0 withZero R es gs ++ (thirds (3 ^ i) withPlus R es gs ++ thirds (2 * 3 ^ i) withMinus R es gs)
 
+unfoldable pub judged : ℕ → List Row → List ℤ → List ℤ → Option (List Row)
+judged i R es gs = cond (allFair R es gs) (some (extendedRows i R es gs)) none
+
 unfoldable pub byMoments : ℕ → List Row → List ℤ → Option (List Row)
 byMoments i R₀ ws =
     andThen (solverOf i (patterns R₀) (take (length R₀) ws)) λ es.
     andThen (solverOf i (patterns R₀) (drop (length R₀) ws)) λ gs.
-    cond (allFair R₀ es gs) (some (extendedRows i R₀ es gs)) none
+    judged i R₀ es gs

@@ -1,5 +1,5 @@
--- Rounds, rows and counts "as the answers give them above, not as the record holds them" (document 01, "The run"). Assumes nothing: these are
--- definitions. In all of them zs are answers and ps the products they answer, in order. Where document 01 says round i, here stands i + 1.
+-- Rounds, rows and counts "as the answers give them above, not as the record holds them" (document 01, "The run").
+-- In all of them zs are answers and ps the products they answer, in order. Where document 01 says round i, here stands i + 1.
 --
 --   roundOf i L            == the products of round i + 1 after rows with the patterns L: "every a in A with 3^(i−1) added, in order, then
 --                             every a with 2 × 3^(i−1) added", A being the adapted list of L
@@ -22,9 +22,10 @@ use mathlib.Core.List.{List, [], _∷_, _++_}
 use Prim.Native.Nat.{ℕ, zero, suc, _+_, _*_, _^_, _%_, _<_, _≤_}
 use lib.IntN.{ℤ, pos}
 use lib.ListN.{length, take}
+use Rattle.refusals.specs.Limits.{mostPoints}
 use Rattle.signs.specs.Lists.{times, shift}
 use Rattle.signs.specs.Adapted.{adapted}
-use Rattle.rounds.specs.Rows.{maxPoints, Row, patterns, points, IsRows, rowIf, Fits}
+use Rattle.rounds.specs.Rows.{Row, patterns, points, IsRows, rowIf, Fits}
 
 unfoldable pub roundOf : ℕ → List ℕ → List ℕ
 roundOf i L = shift (3 ^ i) (adapted i L) ++ shift (2 * 3 ^ i) (adapted i L)
@@ -47,7 +48,7 @@ pub record Answered (i : ℕ) (After : List ℤ → List ℕ → List Row → Ty
   pub all : length now ≡ length (roundOf i (patterns rows))
 
 unfoldable pub Determined : ℕ → List ℤ → List ℕ → List Row → Type 0
-Determined zero zs ps R = (n : ℕ) × (n ≤ maxPoints) × (zs ≡ pos n ∷ []) × (ps ≡ 0 ∷ []) × (R ≡ rowIf 0 n)
+Determined zero zs ps R = (n : ℕ) × (n ≤ mostPoints) × (zs ≡ pos n ∷ []) × (ps ≡ 0 ∷ []) × (R ≡ rowIf 0 n)
 Determined (suc i) zs ps R = (a : Answered i (Determined i) zs ps) × Counts i (a .rows) ps zs R
 
 -- rounds 0 .. i have ended, whatever came after

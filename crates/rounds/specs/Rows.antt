@@ -1,6 +1,5 @@
--- Rows, oracles and the realized list (document 01, "The run", and demand 3). Assumes nothing: these are definitions.
+-- Rows, oracles and the realized list (document 01, "The run", and demand 3).
 --
---   maxPoints, maxPolynomials == 64 and 8
 --   Row                       == a pattern with its count
 --   patterns R, counts R      == the rows' patterns, and their counts
 --   points R                  == each pattern as often as its count says
@@ -19,14 +18,9 @@ use mathlib.Core.List.{List, [], _∷_, _++_}
 use Prim.Native.Nat.{ℕ, zero, suc, _^_, _<_, _≤_}
 use lib.IntN.{ℤ}
 use lib.ListN.{length, replicate}
+use Rattle.refusals.specs.Limits.{mostPoints}
 use Rattle.signs.specs.Lists.{times, Below, Rising}
 use Rattle.signs.specs.Signs.{query}
-
-abbrev pub maxPoints : ℕ
-maxPoints = 64
-
-abbrev pub maxPolynomials : ℕ
-maxPolynomials = 8
 
 -- ---- rows
 
@@ -78,7 +72,7 @@ rowsOf (suc n) c = rowsOf n c ++ rowIf n (c n)
 -- ---- oracles
 
 pub record Oracle (s : ℕ) (E : List ℕ) : Type 0 where
-  pub held : length E ≤ maxPoints
+  pub held : length E ≤ mostPoints
   pub below : Below (3 ^ s) E
 
 unfoldable pub realized : ℕ → List ℕ → List Row

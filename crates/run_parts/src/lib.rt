@@ -6,6 +6,7 @@ ghost use mathlib.Core.Path.{_≡_};
 ghost use mathlib.Core.List.{[], _∷_, _++_};
 ghost use Prim.Native.Nat.{_+_, _*_, _^_, _≤_, _<_};
 ghost use lib.ListN.{length, take, drop};
+ghost use Rattle.refusals.specs.Limits.{mostPolynomials, mostPoints};
 ghost use Rattle.signs.specs.Lists.{Below, Rising, isBelow};
 ghost use Rattle.signs.specs.Adapted.{adapted as adaptedOf};
 ghost use Rattle.rounds.specs.Rows.{rowIf, rowsWith};
@@ -14,34 +15,30 @@ ghost use Rattle.round_end.specs.Outcome.{Ended, Left};
 ghost use Rattle.runs.specs.Run.{productAt};
 ghost use Rattle.run_parts.specs.Parts.{inLimits, heldRows};
 use adapted::adapted;
+use refusals::MOST_POLYNOMIALS;
+use refusals::MOST_PRODUCTS;
+use refusals::MOST_ROWS;
 use round_end::Next;
 use round_end::next_rows;
 use signs::Product;
 use signs::power;
 use solutions::below;
 
-// The most polynomials, points and rows (document 01).
-const MOST_POLYNOMIALS: usize = 8;
-
-const MOST_POINTS: u64 = 64;
-
-const MOST_ROWS: usize = 64;
-
-// The most products of a round.
-const MOST_PRODUCTS: usize = 128;
+// The most points, as a record has their number.
+const MOST_POINTS: u64 = refusals::MOST_POINTS as u64;
 
 // Rows on their way into a record.
 pub struct Rows {
     pub number: usize,
-    pub patterns: [u16; 64],
-    pub counts: [u16; 64],
+    pub patterns: [u16; MOST_ROWS],
+    pub counts: [u16; MOST_ROWS],
 }
 
 // The end of a round, with the arrays that hold its rows.
 pub struct Found {
     pub next: Next,
-    pub patterns: [u16; 64],
-    pub counts: [u16; 64],
+    pub patterns: [u16; MOST_ROWS],
+    pub counts: [u16; MOST_ROWS],
 }
 
 // ---- tests
@@ -95,18 +92,18 @@ pub fn in_limits(
 // ---- the products of a round
 
 // The adapted list of the first n patterns, at the front.
-pub fn products_of(i: usize, patterns: &[u16], n: usize) -> [u16; 64]
-    requires { ⌜ (i ≤ 8) × (n ≤ 64) × (n ≤ length (now patterns)) × Rising (take n (now patterns)) × Below (3 ^ i) (take n (now patterns)) ⌝ }
+pub fn products_of(i: usize, patterns: &[u16], n: usize) -> [u16; MOST_ROWS]
+    requires { ⌜ (i ≤ mostPolynomials) × (n ≤ mostPoints) × (n ≤ length (now patterns)) × Rising (take n (now patterns)) × Below (3 ^ i) (take n (now patterns)) ⌝ }
     ensures { λ r. ⌜ take n r ≡ adaptedOf i (take n (now (patterns .entry))) ⌝ }
 {
-    let mut products = [0u16; 64];
+    let mut products = [0u16; MOST_ROWS];
     adapted(&patterns[..n], i, 0, &mut products, 0);
     products
 }
 
 // The k-th product of round i + 1, where the adapted list of the rows before it is the first n numbers of the list.
 pub fn product_at(i: usize, list: &[u16], n: usize, k: usize) -> Product
-    requires { ⌜ (i ≤ 7) × (n ≤ length (now list)) × Below (3 ^ i) (take n (now list)) × (k < 2 * n) ⌝ }
+    requires { ⌜ (i < mostPolynomials) × (n ≤ length (now list)) × Below (3 ^ i) (take n (now list)) × (k < 2 * n) ⌝ }
     ensures { λ r. ⌜ r .0 ≡ productAt i (take n (now (list .entry))) k ⌝ }
 {
     let once = power(i);
@@ -123,8 +120,8 @@ pub fn product_at(i: usize, list: &[u16], n: usize, k: usize) -> Product
 pub fn first_rows(count: u16) -> Rows
     ensures { λ r. ⌜ (heldRows r ≡ rowIf 0 count) × (r .number ≤ 1) × (0 < count → (r .number ≡ 1) × (take (r .number) (r .patterns) ≡ 0 ∷ [])) ⌝ }
 {
-    let patterns = [0u16; 64];
-    let mut counts = [0u16; 64];
+    let patterns = [0u16; MOST_ROWS];
+    let mut counts = [0u16; MOST_ROWS];
     counts[0] = count;
     if count == 0 {
         return Rows {
@@ -141,11 +138,11 @@ pub fn first_rows(count: u16) -> Rows
 }
 
 // The first n answers, 64 bits wide, at the front.
-fn widened(answers: &[i8], n: usize) -> [i64; 128]
-    requires { ⌜ (n ≤ 128) × (n ≤ length (now answers)) ⌝ }
-    ensures { λ r. ⌜ (take n r ≡ take n (now (answers .entry))) × (length r ≡ 128) ⌝ }
+fn widened(answers: &[i8], n: usize) -> [i64; MOST_PRODUCTS]
+    requires { ⌜ (n ≤ 2 * mostPoints) × (n ≤ length (now answers)) ⌝ }
+    ensures { λ r. ⌜ (take n r ≡ take n (now (answers .entry))) × (length r ≡ 2 * mostPoints) ⌝ }
 {
-    let mut wide = [0i64; 128];
+    let mut wide = [0i64; MOST_PRODUCTS];
     let mut k = 0;
     while k < n {
         wide[k] = answers[k] as i64;
@@ -156,12 +153,12 @@ fn widened(answers: &[i8], n: usize) -> [i64; 128]
 
 // The rows after round i + 1, or that there are none.
 fn rows_after(i: usize, patterns: &[u16], counts: &[u16], answers: &[i64]) -> Found
-    requires { ⌜ (i ≤ 7) × (length (now counts) ≡ length (now patterns)) ⌝ }
+    requires { ⌜ (i < mostPolynomials) × (length (now counts) ≡ length (now patterns)) ⌝ }
     ensures { λ r. ⌜ Ended i (now (patterns .entry)) (now (counts .entry)) (now (answers .entry)) (r .next) (r .patterns) (r .counts) ⌝ }
-    ensures { λ r. ⌜ length (r .patterns) ≡ 64 ⌝ }
+    ensures { λ r. ⌜ length (r .patterns) ≡ mostPoints ⌝ }
 {
-    let mut new = [0u16; 64];
-    let mut numbers = [0u16; 64];
+    let mut new = [0u16; MOST_ROWS];
+    let mut numbers = [0u16; MOST_ROWS];
     let next = next_rows(i, patterns, counts, answers, &mut new, &mut numbers);
     Found {
         next: next,
@@ -180,9 +177,9 @@ pub fn find_rows<'a>(
     k: usize,
     last: i64,
 ) -> Found
-    requires { ⌜ (i ≤ 7) × (rows ≤ length (now patterns)) × (rows ≤ length (now counts)) × (k < 128) × (k ≤ length (now answers)) ⌝ }
+    requires { ⌜ (i < mostPolynomials) × (rows ≤ length (now patterns)) × (rows ≤ length (now counts)) × (k < 2 * mostPoints) × (k ≤ length (now answers)) ⌝ }
     ensures { λ r. ⌜ Left (roundRows i (rowsWith (take rows (now (patterns .entry))) (take rows (now (counts .entry)))) (take k (now (answers .entry)) ++ (last ∷ []))) (r .next) (r .patterns) (r .counts) ⌝ }
-    ensures { λ r. ⌜ length (r .patterns) ≡ 64 ⌝ }
+    ensures { λ r. ⌜ length (r .patterns) ≡ mostPoints ⌝ }
 {
     let mut wide = widened(answers, k);
     wide[k] = last;

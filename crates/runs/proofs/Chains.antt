@@ -1,12 +1,12 @@
 -- From the rules to code: a chain of calls each of which keeps its contract is a run by the rules, so demand 3 holds of it.
 -- C is the code's record, `view` reads a record of the rules out of it, and Starts, Answers, Fetches, Copies are what the four contracts ensure:
 -- Starts s c x that a start for s gives the record c and the step x, Answers c z c′ x that the answer z to the record c leaves c′ and gives x,
--- and so on. Assumes nothing.
+-- and so on.
 use mathlib.Core.Path.{_≡_, refl, ap, ap₂, _∙_}
 use mathlib.Core.List.{List, [], _∷_}
 use Prim.Native.Nat.{ℕ, _≤_}
 use lib.IntN.{ℤ}
-use Rattle.rounds.specs.Rows.{maxPolynomials}
+use Rattle.refusals.specs.Limits.{mostPolynomials}
 use Rattle.rounds.specs.RoundEnd.{roundRows}
 use Rattle.runs.specs.Run.{State, startOf, Step, ask, Fetch, Copy, running, answerOf, fetchOf, copyOf}
 use Rattle.runs.specs.Demand.{Call, answer, fetch, copy, Event, answered, fetched, copied-to, play, events, phaseOf, taken, given, Claim}
@@ -35,7 +35,7 @@ module _ (C : Type 0) (view : C → State) (Starts : ℕ → C → Step → Type
 
   -- the contracts are equations with the rules
   pub record Keeps : Type 0 where
-    pub starts : (s : ℕ) (c : C) (x : Step) → 1 ≤ s → s ≤ maxPolynomials → Starts s c x → (view c ≡ startOf s) × (x ≡ ask 0)
+    pub starts : (s : ℕ) (c : C) (x : Step) → 1 ≤ s → s ≤ mostPolynomials → Starts s c x → (view c ≡ startOf s) × (x ≡ ask 0)
     pub answers : (c : C) (z : ℤ) (c′ : C) (x : Step) → Answers c z c′ x
         → (view c′ ≡ answerOf roundRows (view c) z .0) × (x ≡ answerOf roundRows (view c) z .1)
     pub fetches : (c : C) (p : ℕ) (x : Fetch) → Fetches c p x → x ≡ fetchOf (view c) p
@@ -57,7 +57,7 @@ module _ (C : Type 0) (view : C → State) (Starts : ℕ → C → Step → Type
   chain-plays k (by-copy {c} {a = a} {b} {x} q h) = let (e, f) = chain-plays k h in (ap₂ _∷_ (ap (copied-to a b) (k .copies c a b x q)) e, f)
 
   -- what a run gives and leaves is what the rules give and leave
-  run-plays : Keeps → (s : ℕ) → 1 ≤ s → s ≤ maxPolynomials → {cs : List Call} {t : List Event} {d : C} → FromStart s cs t d
+  run-plays : Keeps → (s : ℕ) → 1 ≤ s → s ≤ mostPolynomials → {cs : List Call} {t : List Event} {d : C} → FromStart s cs t d
       → (t ≡ events roundRows (startOf s) cs) × (view d ≡ play roundRows (startOf s) cs)
   run-plays k s h m {cs} u =
       let (v, w) = k .starts s (u .began) (u .first) h m (u .start) in
@@ -65,10 +65,10 @@ module _ (C : Type 0) (view : C → State) (Starts : ℕ → C → Step → Type
       (e ∙ ap (λ (r : State). events roundRows r cs) v, f ∙ ap (λ (r : State). play roundRows r cs) v)
 
   -- DEMAND 3 of the code, for every chain of calls after a start
-  pub demand3-chain : Keeps → (s : ℕ) → 1 ≤ s → s ≤ maxPolynomials → {cs : List Call} {t : List Event} {d : C} → FromStart s cs t d
+  pub demand3-chain : Keeps → (s : ℕ) → 1 ≤ s → s ≤ mostPolynomials → {cs : List Call} {t : List Event} {d : C} → FromStart s cs t d
       → Claim s (0 ∷ given running t) (taken running t) (phaseOf running t) (view d .total) t
   demand3-chain k s h m {cs} {t} {d} u = let (e, f) = run-plays k s h m u in rw (e, f) (demand3 s h m cs)
 
   -- and what its records hold
-  pub reached-chain : Keeps → (s : ℕ) → 1 ≤ s → s ≤ maxPolynomials → {cs : List Call} {t : List Event} {d : C} → FromStart s cs t d → Reached s (view d)
+  pub reached-chain : Keeps → (s : ℕ) → 1 ≤ s → s ≤ mostPolynomials → {cs : List Call} {t : List Event} {d : C} → FromStart s cs t d → Reached s (view d)
   reached-chain k s h m {cs} {t} {d} u = let (e, f) = run-plays k s h m u in rw f (reached s h m cs)

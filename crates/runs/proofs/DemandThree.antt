@@ -1,4 +1,4 @@
--- DEMAND 3, proved: the claim holds after every list of calls on one run, for every number s of polynomials from 1 on. Assumes nothing.
+-- DEMAND 3, proved: the claim holds after every list of calls on one run, for every number s of polynomials from 1 on.
 use mathlib.Core.Path.{_≡_, refl, sym, ap, _∙_, subst}
 use mathlib.Core.Logic.{_≢_, _⊎_, inl, inr, _↔_}
 use mathlib.Core.Option.{Option}
@@ -9,12 +9,13 @@ use native.Mathlib.Decide.{decLt}
 use lib.IntN.{ℤ, pos}
 use lib.ListN.{length, replicate, take, drop, length-replicate, length-append, length-take, take-append-drop}
 use lib.Seq.{take-length, take-take}
+use Rattle.refusals.specs.Limits.{mostPolynomials}
 use Rattle.signs.specs.Lists.{times}
 use Rattle.runs.specs.Demand.{Call, Event, play, events, taken, given, waiting, SomeFits, Claim, ClaimFor, Demand3}
 use Rattle.rounds.specs.NextRows.{RightRows}
 use Rattle.rounds.specs.RoundEnd.{roundRows}
 use Rattle.rounds.specs.Rounds.{roundOf, Answered, Determined, AtEnd, LastEnded, Past, InOrder, RowsAfter}
-use Rattle.rounds.specs.Rows.{maxPolynomials, Row, patterns, points, Positive, Oracle, realized, IsRealized, Fits}
+use Rattle.rounds.specs.Rows.{Row, patterns, points, Positive, Oracle, realized, IsRealized, Fits}
 use Rattle.runs.specs.Run.{Phase, running, finished, closed, State, startOf}
 use Rattle.rounds.proofs.RowLaws.{times-single}
 use Rattle.rounds.proofs.Realized.{realized-true}
@@ -163,7 +164,7 @@ module _ (s : ℕ) (h : 1 ≤ s) (r : State) (zs : List ℤ) (ps : List ℕ) whe
       (c, each, one-row s (c 0) zs ps (r .rows) d m (each 0 h), omega (arith, n, sum, facts s zs ps (r .rows) d .lengths))
   exact-all closed k x e m n = absurd (closed-not-finished e)
 
-  most-all : (f : Phase) (k : ℕ) → At s r zs ps f k → f ≡ finished → s ≤ maxPolynomials → r .total ≡ length zs → r .total ≤ 593
+  most-all : (f : Phase) (k : ℕ) → At s r zs ps f k → f ≡ finished → s ≤ mostPolynomials → r .total ≡ length zs → r .total ≤ 593
   most-all running zero x e m n = absurd (running-not-finished e)
   most-all running (suc i) x e m n = absurd (running-not-finished e)
   most-all finished k d e m n =

@@ -1,4 +1,4 @@
--- The run's lines of document 01's list of edges, computed from the definitions. Assumes nothing.
+-- The run's lines of document 01's list of edges, computed from the definitions.
 use mathlib.Core.Path.{_≡_, refl}
 use mathlib.Core.List.{List, [], _∷_, _++_}
 use Prim.Native.Nat.{ℕ}
@@ -9,7 +9,7 @@ use Rattle.signs.specs.Adapted.{signsOf, lows, adapted}
 use Rattle.signs.specs.Tally.{fold, tally}
 use Rattle.solutions.specs.Solver.{_⊕_, _⊖_, half, allEven, queries, block, known-1, known-2, knownDifference, knownSum, glue, bySign, combine, solve, lookup, weightOf, values, withinLimit, solverOf}
 use Rattle.rounds.specs.Rows.{Row, patterns, counts, rowIf}
-use Rattle.rounds.specs.Moments.{fair, allFair, thirds, extendedRows, byMoments}
+use Rattle.rounds.specs.Moments.{fair, allFair, thirds, extendedRows, judged, byMoments}
 use Rattle.rounds.specs.RoundEnd.{allPositive, sum, properRows, roundRows}
 use Rattle.runs.specs.Run.{Step, ask, done, refused, row, no-row, copied, kept, State, startOf, productAt, answerOf, fetchRule, fetchOf, copyRule, copyOf}
 use Rattle.runs.specs.Demand.{Call, answer, fetch, copy, Event, answered, fetched, copied-to, events}
@@ -65,7 +65,7 @@ pub record RunEdges : Type 0 where
       (answered (pos 65) (refused 8) ∷ answered (pos 2) (refused 7) ∷ fetched 0 (no-row 7) ∷ copied-to (9 ∷ []) (8 ∷ []) (kept 7 (9 ∷ []) (8 ∷ [])) ∷ [])
 
 pub run-edges : RunEdges
-unfolding answerOf productAt roundRows properRows isRising isBelow allPositive sum patterns counts byMoments allFair fair extendedRows thirds rowIf solverOf withinLimit sumAbs values solve combine bySign glue knownSum knownDifference known-1 known-2 block queries allEven half _⊕_ _⊖_ lookup weightOf fold tally adapted times shift lows keep upTo signsOf fetchOf copyOf fetchRule copyRule events
+unfolding answerOf productAt roundRows properRows isRising isBelow allPositive sum patterns counts byMoments judged allFair fair extendedRows thirds rowIf solverOf withinLimit sumAbs values solve combine bySign glue knownSum knownDifference known-1 known-2 block queries allEven half _⊕_ _⊖_ lookup weightOf fold tally adapted times shift lows keep upTo signsOf fetchOf copyOf fetchRule copyRule events
 run-edges =
     record {
       no-points = λ s. refl;

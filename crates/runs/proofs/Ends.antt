@@ -1,4 +1,4 @@
--- The rows after a round: patterns of one polynomial more, rising, and some where there were some. Assumes nothing.
+-- The rows after a round: patterns of one polynomial more, rising, and some where there were some.
 use mathlib.Core.Path.{_≡_, refl, sym, _∙_}
 use mathlib.Core.Bool.{Bool, true, false, cond, _&&_}
 use mathlib.Core.Option.{Option, some, none}
@@ -9,9 +9,10 @@ use borrow.Author.Tests.{ltb-true, leb-true, eqb-true}
 use lib.Dec.{eqb, ltb}
 use lib.IntN.{ℤ}
 use lib.ListN.{length}
+use Rattle.refusals.specs.Limits.{mostPoints}
 use Rattle.signs.specs.Lists.{isRising, isBelow, Rising, Below}
 use Rattle.signs.proofs.Orders.{both-left, both-right, rising-from, below-from}
-use Rattle.rounds.specs.Rows.{maxPoints, Row, patterns, counts, points, Positive, IsRows}
+use Rattle.rounds.specs.Rows.{Row, patterns, counts, points, Positive, IsRows}
 use Rattle.rounds.specs.NextRows.{NextRows}
 use Rattle.rounds.specs.Moments.{byMoments}
 use Rattle.rounds.specs.RoundEnd.{allPositive, sum, properRows, roundRows}
@@ -26,7 +27,7 @@ positive-from (r ∷ R) e =
     (ltb-true 0 (r .count) (both-left (ltb 0 (r .count)) (allPositive (counts R)) e), positive-from R (both-right (ltb 0 (r .count)) (allPositive (counts R)) e))
 
 -- rows that pass the test are rows as a round leaves them
-proper-rows : (i : ℕ) (R : List Row) → properRows i R ≡ true → IsRows i R × (length (points R) ≤ maxPoints)
+proper-rows : (i : ℕ) (R : List Row) → properRows i R ≡ true → IsRows i R × (length (points R) ≤ mostPoints)
 unfolding properRows
 proper-rows i R e =
     let e₁ = both-right (isRising (patterns R)) _ e in
@@ -36,7 +37,7 @@ proper-rows i R e =
         below = below-from (3 ^ i) (patterns R) (both-left (isBelow (3 ^ i) (patterns R)) _ e₁);
         positive = positive-from R (both-left (allPositive (counts R)) _ e₂);
       },
-      omega (arith, leb-true (sum (counts R)) maxPoints (both-right (allPositive (counts R)) _ e₂), sum-points R),
+      omega (arith, leb-true (sum (counts R)) mostPoints (both-right (allPositive (counts R)) _ e₂), sum-points R),
     )
 
 -- where a round has rows after it, those before it passed the test, and the answers were all there

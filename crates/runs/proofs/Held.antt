@@ -1,11 +1,12 @@
 -- Rows that stand in two lists, one of patterns and one of counts: their number, their elements, and rows taken apart and put together.
--- Assumes nothing.
 use mathlib.Core.Path.{_≡_, refl, ap}
-use mathlib.Core.List.{List, [], _∷_, map}
-use Prim.Native.Nat.{ℕ, zero, suc, _<_}
+use mathlib.Core.List.{List, [], _∷_, _++_, map}
+use Prim.Native.Nat.{ℕ, zero, suc, _+_, _<_}
 use native.Mathlib.Nat.{le-of-suc-le-suc, add-zero}
 use native.Mathlib.Omega.{arith}
-use lib.ListN.{length, getD}
+use native.Mathlib.Numerals.{add-one}
+use lib.ListN.{length, getD, take, set}
+use lib.Seq.{take-suc-set}
 use Rattle.signs.specs.Lists.{times, Rising, Below, shift}
 use Rattle.signs.proofs.Lists.{times-nil, times-same, times-cons}
 use Rattle.rounds.specs.Rows.{Row, patterns, counts, rowsWith}
@@ -47,6 +48,11 @@ pub with-own : (R : List Row) → rowsWith (patterns R) (counts R) ≡ R
 unfolding patterns counts rowsWith
 with-own [] = refl
 with-own (r ∷ R) = ap (λ (l : List Row). r ∷ l) (with-own R)
+
+-- ---- a list at the front of an array, and one element more
+
+pub stored : {A : Type 0} (l : List A) (k : ℕ) (z : A) → k < length l → take (k + 1) (set l k z) ≡ take k l ++ (z ∷ [])
+stored l k z h = rw (add-one k) (take-suc-set l k z h)
 
 -- ---- a single row, and bounds by membership
 

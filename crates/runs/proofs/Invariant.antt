@@ -1,4 +1,4 @@
--- What holds of the record after every call: the invariant of a run, and that an answer keeps it. Assumes nothing.
+-- What holds of the record after every call: the invariant of a run, and that an answer keeps it.
 use mathlib.Core.Path.{_≡_, refl, sym, ap, _∙_, subst}
 use mathlib.Core.Logic.{_≢_, _⊎_, inl, inr}
 use mathlib.Core.Bool.{Bool, true, false, cond}
@@ -13,6 +13,7 @@ use lib.Dec.{eqb, leb, ltb, eqb·suc-zero}
 use lib.IntN.{ℤ, pos, negsuc, natAbs}
 use lib.ListN.{length, take, drop, getD, length-append, length-take, take-append-drop, List·getD-append}
 use lib.Seq.{take-suc, take-all, take-append-le, getD-append-add}
+use Rattle.refusals.specs.Limits.{mostPoints}
 use Rattle.signs.specs.Lists.{times, shift}
 use Rattle.signs.specs.Adapted.{adapted}
 use Rattle.signs.proofs.Lists.{times-append, times-take}
@@ -21,7 +22,7 @@ use Rattle.signs.proofs.Size.{length-shift}
 use Rattle.runs.specs.Demand.{heard, asks, Proper, SomeFits}
 use Rattle.rounds.specs.NextRows.{RightRows}
 use Rattle.rounds.specs.Rounds.{roundOf, Answered, Determined, AtEnd, InOrder}
-use Rattle.rounds.specs.Rows.{maxPoints, Row, patterns, points, rowIf, rowsOf, Fits}
+use Rattle.rounds.specs.Rows.{Row, patterns, points, rowIf, rowsOf, Fits}
 use Rattle.runs.specs.Run.{Step, Phase, running, finished, closed, State, startOf, productAt, close, ended, endRound, goOn, first, later, inRound, inPhase, answerOf}
 use Rattle.rounds.proofs.Answers.{Facts, facts, more-rows, query-zero, round-low, round-once, round-length}
 use Rattle.rounds.proofs.RowLaws.{times-single}
@@ -63,7 +64,7 @@ pub record Inv (s : ℕ) (r : State) (zs : List ℤ) (ps : List ℕ) : Type 0 wh
   pub polys : r .polynomials ≡ s
   pub count : r .total ≡ length zs
   pub in-range : r .round ≤ s
-  pub few : length zs ≤ 1 + 2 * maxPoints * r .round
+  pub few : length zs ≤ 1 + 2 * mostPoints * r .round
   pub at : At s r zs ps (r .phase) (r .round)
 
 pub start-inv : (s : ℕ) → Inv s (startOf s) [] (0 ∷ [])
@@ -142,7 +143,7 @@ going-length s r zs ps i g =
     Q = roundOf i (patterns (r .rows))
 
 -- a run that goes on has taken few answers
-pub going-short : (s i : ℕ) (r : State) (zs : List ℤ) (ps : List ℕ) → Going s r zs ps i → length zs ≤ 2 * maxPoints * suc i
+pub going-short : (s i : ℕ) (r : State) (zs : List ℤ) (ps : List ℕ) → Going s r zs ps i → length zs ≤ 2 * mostPoints * suc i
 going-short s i r zs ps g =
     let same : suc i ≤ suc i = omega arith in
     omega (
@@ -187,7 +188,7 @@ cond-after s zs ps z x y true f g = f refl
 cond-after s zs ps z x y false f g = g refl
 
 module _ (N : ℕ → List Row → List ℤ → Option (List Row)) (s : ℕ) (r : State) (zs : List ℤ) (ps : List ℕ) (z : ℤ)
-    (polys : r .polynomials ≡ s) (count : r .total ≡ length zs) (i : ℕ) (in-range : i ≤ s) (short : length zs ≤ 2 * maxPoints * i) where
+    (polys : r .polynomials ≡ s) (count : r .total ≡ length zs) (i : ℕ) (in-range : i ≤ s) (short : length zs ≤ 2 * mostPoints * i) where
   close-after : (k : ℕ) → r .round ≡ i → (k ≡ 8) ⊎ ((k ≡ 9) ⊎ (k ≡ 10)) → Closed s (zs ++ (z ∷ [])) ps → After s zs ps z (close N r k)
   unfolding heard asks Proper
   close-after k same c h =
@@ -255,7 +256,7 @@ module _ (N : ℕ → List Row → List ℤ → Option (List Row)) (s : ℕ) (r 
 -- ---- the first answer
 
 -- the first answer counts the patterns held, so a number that is none of 0 .. 64 fits no oracle
-closed-first : (s : ℕ) (z : ℤ) → ((E : List ℕ) → length E ≤ maxPoints → z ≡ pos (length E) → ⊥) → Closed s (z ∷ []) (0 ∷ [])
+closed-first : (s : ℕ) (z : ℤ) → ((E : List ℕ) → length E ≤ mostPoints → z ≡ pos (length E) → ⊥) → Closed s (z ∷ []) (0 ∷ [])
 unfolding Fits InOrder
 closed-first s z h =
     record {
@@ -273,12 +274,12 @@ first-after N s (negsuc n) h =
 first-after N s (pos zero) h =
     done-after N s (startOf s) [] (0 ∷ []) (pos 0) refl refl 0 (omega arith) (omega arith) 0 (rowIf 0 0) (unfold rowIf in determined-empty s)
 first-after N s (pos (suc n)) h =
-    cond-after s [] (0 ∷ []) (pos (suc n)) _ _ (leb (suc n) maxPoints)
+    cond-after s [] (0 ∷ []) (pos (suc n)) _ _ (leb (suc n) mostPoints)
     (λ t. rw (eqb·suc-zero n)
     (begin-after N s (startOf s) [] (0 ∷ []) (pos (suc n)) refl refl 0 (omega arith) (omega arith) (suc n) (rowIf 0 (suc n)) []
-    (unfold Determined in (suc n, leb-true (suc n) maxPoints t, refl, refl, refl)) (omega arith) (unfold rowIf in omega arith) refl))
+    (unfold Determined in (suc n, leb-true (suc n) mostPoints t, refl, refl, refl)) (omega arith) (unfold rowIf in omega arith) refl))
     (λ t. close-after N s (startOf s) [] (0 ∷ []) (pos (suc n)) refl refl 0 (omega arith) (omega arith) 8 refl (inl refl)
-    (closed-first s (pos (suc n)) (λ E k e. let x : suc n ≡ length E = cc in omega (arith, leb-false (suc n) maxPoints t))))
+    (closed-first s (pos (suc n)) (λ E k e. let x : suc n ≡ length E = cc in omega (arith, leb-false (suc n) mostPoints t))))
 
 -- ---- a later answer
 
@@ -294,10 +295,10 @@ module _ (N : ℕ → List Row → List ℤ → Option (List Row)) (right : Righ
   F : Facts i (g .before) (g .asked) (r .rows)
   F = facts i (g .before) (g .asked) (r .rows) (g .determined)
 
-  few : length (points (r .rows)) ≤ maxPoints
+  few : length (points (r .rows)) ≤ mostPoints
   few = rows-oracle i i (g .before) (g .asked) (r .rows) (omega arith) F .0 .held
 
-  short : length zs ≤ 2 * maxPoints * suc i
+  short : length zs ≤ 2 * mostPoints * suc i
   short = going-short s i r zs ps g
 
   all-answers : zs ++ (z ∷ []) ≡ g .before ++ ws

@@ -9,5 +9,6 @@ pub mod Reached
 pub mod Chains
 pub mod Truthful
 pub mod Refusals
+pub mod Closing
 pub mod Edges
 pub mod Starred

@@ -1,4 +1,4 @@
--- No two phases of a run are the same. Assumes nothing.
+-- No two phases of a run are the same.
 use mathlib.Core.Path.{_≡_}
 use mathlib.Core.Logic.{_≢_}
 use Prim.Native.Nat.{ℕ}

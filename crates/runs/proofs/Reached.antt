@@ -1,11 +1,12 @@
--- Theorem: what every record holds that calls reach from a start. Assumes nothing.
+-- Theorem: what every record holds that calls reach from a start.
 use mathlib.Core.Path.{_≡_, refl, sym, ap, _∙_, subst}
 use mathlib.Core.List.{List, [], _∷_}
 use Prim.Native.Nat.{ℕ, zero, suc, _+_, _*_, _<_, _≤_}
 use native.Mathlib.Omega.{arith}
 use lib.IntN.{ℤ}
 use lib.ListN.{length}
-use Rattle.rounds.specs.Rows.{maxPolynomials, patterns}
+use Rattle.refusals.specs.Limits.{mostPolynomials}
+use Rattle.rounds.specs.Rows.{patterns}
 use Rattle.rounds.specs.RoundEnd.{roundRows}
 use Rattle.signs.proofs.Size.{as-many}
 use Rattle.runs.specs.Run.{Phase, running, finished, closed, State, startOf}
@@ -53,6 +54,6 @@ inv-reached s r zs ps I =
     at : (f : Phase) (k : ℕ) → r .phase ≡ f → r .round ≡ k → At s r zs ps f k
     at f k e m = subst (At s r zs ps f) m (subst (λ (x : Phase). At s r zs ps x (r .round)) e (I .at))
 
-pub reached : (s : ℕ) → 1 ≤ s → s ≤ maxPolynomials → (calls : List Call) → Reached s (play roundRows (startOf s) calls)
+pub reached : (s : ℕ) → 1 ≤ s → s ≤ mostPolynomials → (calls : List Call) → Reached s (play roundRows (startOf s) calls)
 reached s h m calls =
     inv-reached s (play roundRows (startOf s) calls) _ _ (story roundRows roundRows-right s h calls (startOf s) [] (0 ∷ []) (start-inv s) .inv)

@@ -1,4 +1,4 @@
--- Theorem: each refusal number of a run is given for its cause and no other, for every record. Assumes nothing.
+-- Theorem: each refusal number of a run is given for its cause and no other, for every record.
 use mathlib.Core.Path.{_≡_, refl, sym, ap, _∙_, subst}
 use mathlib.Core.Logic.{_≢_, _⊎_, inl, inr, _↔_}
 use mathlib.Core.Bool.{Bool, true, false, cond}
@@ -10,7 +10,8 @@ use borrow.Author.Tests.{ltb-false, leb-true, leb-false, le-ltb, le-leb, lt-leb}
 use lib.Dec.{eqb, leb, ltb}
 use lib.IntN.{ℤ, pos, negsuc, natAbs}
 use lib.ListN.{length, getD, drop, length-append}
-use Rattle.rounds.specs.Rows.{maxPoints, Row, rowIf}
+use Rattle.refusals.specs.Limits.{mostPoints}
+use Rattle.rounds.specs.Rows.{Row, rowIf}
 use Rattle.runs.specs.Run.{Step, ask, done, refused, Fetch, row, no-row, Copied, copied, not-copied, Copy, kept, Phase, running, finished, closed, State, close, ended, endRound, goOn, first, later, inRound, inPhase, answerOf, fetchRule, fetchOf, copyRule, copyOf}
 use Rattle.runs.specs.Refusals.{OutOfFirst, Shut, Refusals}
 use Rattle.runs.proofs.Phases.{running-not-finished, closed-not-finished, finished-not-running, closed-not-running}
@@ -36,13 +37,13 @@ module _ (N : ℕ → List Row → List ℤ → Option (List Row)) where
   first-why : (r : State) (z : ℤ) (k : ℕ) → r .phase ≡ running → r .round ≡ 0 → first N r z .1 ≡ refused k → Why r z k (first N r z .0)
   first-why r (negsuc n) k p q e =
       why-8 (same-number 8 k e) p q (λ m h c. let x : _≡_ {A = ℕ} 0 1 = cc in omega arith) (refl, refl, refl)
-  first-why r (pos n) k p q e = go (leb n maxPoints) refl e
+  first-why r (pos n) k p q e = go (leb n mostPoints) refl e
     where
-      go : (b : Bool) → leb n maxPoints ≡ b → cond b (ended N r 0 n (rowIf 0 n) (eqb n 0)) (close N r 8) .1 ≡ refused k
+      go : (b : Bool) → leb n mostPoints ≡ b → cond b (ended N r 0 n (rowIf 0 n) (eqb n 0)) (close N r 8) .1 ≡ refused k
           → Why r (pos n) k (cond b (ended N r 0 n (rowIf 0 n) (eqb n 0)) (close N r 8) .0)
       go true t e = absurd (ended-goes r 0 n (rowIf 0 n) (eqb n 0) k e)
       go false t e =
-          why-8 (same-number 8 k e) p q (λ m h c. let x : n ≡ m = cc in omega (arith, leb-false n maxPoints t)) (refl, refl, refl)
+          why-8 (same-number 8 k e) p q (λ m h c. let x : n ≡ m = cc in omega (arith, leb-false n mostPoints t)) (refl, refl, refl)
 
   later-why : (r : State) (z : ℤ) (k i : ℕ) → r .phase ≡ running → r .round ≡ suc i → later N r i z .1 ≡ refused k → Why r z k (later N r i z .0)
   later-why r z k i p q e = go (leb (natAbs z) (r .n)) refl (ltb (length ws) (2 * length (r .products))) refl e
@@ -94,10 +95,10 @@ module _ (N : ℕ → List Row → List ℤ → Option (List Row)) where
 
   first-8 : (r : State) (z : ℤ) → OutOfFirst z → first N r z .1 ≡ refused 8
   first-8 r (negsuc n) h = refl
-  first-8 r (pos n) h = go (leb n maxPoints) refl
+  first-8 r (pos n) h = go (leb n mostPoints) refl
     where
-      go : (b : Bool) → leb n maxPoints ≡ b → cond b (ended N r 0 n (rowIf 0 n) (eqb n 0)) (close N r 8) .1 ≡ refused 8
-      go true t = absurd (h n (leb-true n maxPoints t) refl)
+      go : (b : Bool) → leb n mostPoints ≡ b → cond b (ended N r 0 n (rowIf 0 n) (eqb n 0)) (close N r 8) .1 ≡ refused 8
+      go true t = absurd (h n (leb-true n mostPoints t) refl)
       go false t = refl
 
   answer-9-back : (r : State) (z : ℤ) (m : ℕ) → r .phase ≡ running → r .round ≡ m → 0 < m → r .n < natAbs z → answerOf N r z .1 ≡ refused 9

@@ -1,4 +1,4 @@
--- All starred lines of document 01's edges as one table with one theorem: signs and adapted lists, the solver, the run. Assumes nothing.
+-- All starred lines of document 01's edges as one table with one theorem: signs and adapted lists, the solver, the run.
 use mathlib.Core.Path.{_≡_}
 use mathlib.Core.Option.{some, none}
 use mathlib.Core.List.{[], _∷_}

@@ -1,4 +1,4 @@
--- The rules of an answer, by the tests that the code makes. Assumes nothing.
+-- The rules of an answer, by the tests that the code makes.
 use mathlib.Core.Path.{_≡_, refl, sym, ap, _∙_, subst}
 use mathlib.Core.Bool.{Bool, true, false, cond}
 use mathlib.Core.Option.{Option, some, none}
@@ -10,16 +10,17 @@ use lib.Dec.{eqb, leb, ltb}
 use lib.IntN.{ℤ, pos, negsuc, natAbs}
 use lib.Signed.{_≤ℤ_, _<ℤ_}
 use lib.ListN.{length}
+use Rattle.refusals.specs.Numbers.{late, badFirst, badLater, noCounts}
 use Rattle.integers.proofs.Parts.{int}
 use Rattle.rounds.specs.Rows.{Row, rowIf}
-use Rattle.runs.specs.Run.{State, Phase, running, finished, closed, Step, refused, close, ended, endRound, goOn, first, later, inRound, inPhase, answerOf, late, bad-first, bad-later, no-counts}
+use Rattle.runs.specs.Run.{State, Phase, running, finished, closed, Step, refused, close, ended, endRound, goOn, first, later, inRound, inPhase, answerOf}
 
 module _ (N : ℕ → List Row → List ℤ → Option (List Row)) (r : State) where
-  pub first-below : (z : ℤ) → z <ℤ pos 0 → first N r z ≡ close N r bad-first
+  pub first-below : (z : ℤ) → z <ℤ pos 0 → first N r z ≡ close N r badFirst
   first-below (pos n) h = absurd (omega (int, h))
   first-below (negsuc n) h = refl
 
-  pub first-above : (z : ℤ) → pos 0 ≤ℤ z → 64 < natAbs z → first N r z ≡ close N r bad-first
+  pub first-above : (z : ℤ) → pos 0 ≤ℤ z → 64 < natAbs z → first N r z ≡ close N r badFirst
   first-above (pos n) g h = rw (lt-leb n 64 h) refl
   first-above (negsuc n) g h = absurd (omega (int, g))
 
@@ -27,7 +28,7 @@ module _ (N : ℕ → List Row → List ℤ → Option (List Row)) (r : State) w
   first-some (pos n) g h = rw (le-leb n 64 h) refl
   first-some (negsuc n) g h = absurd (omega (int, g))
 
-  pub later-out : (i : ℕ) (z : ℤ) → r .n < natAbs z → later N r i z ≡ close N r bad-later
+  pub later-out : (i : ℕ) (z : ℤ) → r .n < natAbs z → later N r i z ≡ close N r badLater
   later-out i z h = rw (lt-leb (natAbs z) (r .n) h) refl
 
   pub later-on : (i : ℕ) (z : ℤ) → natAbs z ≤ r .n → length (r .answers ++ (z ∷ [])) < 2 * length (r .products)
@@ -74,13 +75,13 @@ module _ (N : ℕ → List Row → List ℤ → Option (List Row)) (r : State) w
   not-late-first : (z : ℤ) → NotLate (first N r z)
   not-late-first (pos n) = go (leb n 64)
     where
-      go : (b : Bool) → NotLate (cond b (ended N r 0 n (rowIf 0 n) (eqb n 0)) (close N r bad-first))
+      go : (b : Bool) → NotLate (cond b (ended N r 0 n (rowIf 0 n) (eqb n 0)) (close N r badFirst))
       go true = not-late-ended 0 n (rowIf 0 n) (eqb n 0)
-      go false = not-late-close bad-first (λ e. omega arith)
-  not-late-first (negsuc n) = not-late-close bad-first (λ e. omega arith)
+      go false = not-late-close badFirst (λ e. omega arith)
+  not-late-first (negsuc n) = not-late-close badFirst (λ e. omega arith)
 
   not-late-end : (i : ℕ) (o : Option (List Row)) → NotLate (endRound N r i o)
-  not-late-end i none = not-late-close no-counts (λ e. omega arith)
+  not-late-end i none = not-late-close noCounts (λ e. omega arith)
   not-late-end i (some R) = not-late-ended (suc i) (r .n) R (eqb (suc i) (r .polynomials))
 
   not-late-on : (i : ℕ) (ws : List ℤ) (b : Bool) → NotLate (goOn N r i ws b)
@@ -90,9 +91,9 @@ module _ (N : ℕ → List Row → List ℤ → Option (List Row)) (r : State) w
   not-late-later : (i : ℕ) (z : ℤ) → NotLate (later N r i z)
   not-late-later i z = go (leb (natAbs z) (r .n))
     where
-      go : (b : Bool) → NotLate (cond b (goOn N r i (r .answers ++ (z ∷ [])) (ltb (length (r .answers ++ (z ∷ []))) (2 * length (r .products)))) (close N r bad-later))
+      go : (b : Bool) → NotLate (cond b (goOn N r i (r .answers ++ (z ∷ [])) (ltb (length (r .answers ++ (z ∷ []))) (2 * length (r .products)))) (close N r badLater))
       go true = not-late-on i (r .answers ++ (z ∷ [])) (ltb (length (r .answers ++ (z ∷ []))) (2 * length (r .products)))
-      go false = not-late-close bad-later (λ e. omega arith)
+      go false = not-late-close badLater (λ e. omega arith)
 
   not-late-in : (i : ℕ) (z : ℤ) → NotLate (inRound N r i z)
   not-late-in zero z = not-late-first z

@@ -1,4 +1,4 @@
--- A run through any list of calls: the invariant at its end, and what the events say. Assumes nothing.
+-- A run through any list of calls: the invariant at its end, and what the events say.
 use mathlib.Core.Path.{_≡_, refl, sym, ap, _∙_, subst}
 use mathlib.Core.Logic.{_≢_, _⊎_, inl, inr}
 use mathlib.Core.Option.{Option}

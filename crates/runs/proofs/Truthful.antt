@@ -1,4 +1,4 @@
--- Theorem: an oracle that answers truthfully throughout always ends done, and the rows are its realized list. Assumes nothing.
+-- Theorem: an oracle that answers truthfully throughout always ends done, and the rows are its realized list.
 use mathlib.Core.Path.{_≡_, refl, sym, ap, subst}
 use mathlib.Core.Option.{Option}
 use mathlib.Core.List.{List, [], _∷_, _++_, append-nil}
@@ -6,8 +6,9 @@ use Prim.Native.Nat.{ℕ, zero, suc, _+_, _*_, _<_, _≤_}
 use native.Mathlib.Omega.{arith}
 use lib.IntN.{ℤ}
 use lib.ListN.{length, length-append}
+use Rattle.refusals.specs.Limits.{mostPoints}
 use Rattle.signs.specs.Signs.{query}
-use Rattle.rounds.specs.Rows.{maxPoints, Row, Oracle, realized, Fits}
+use Rattle.rounds.specs.Rows.{Row, Oracle, realized, Fits}
 use Rattle.rounds.specs.NextRows.{RightRows}
 use Rattle.rounds.specs.RoundEnd.{roundRows}
 use Rattle.runs.specs.Run.{Step, ask, done, refused, Phase, running, finished, closed, State, startOf, answerOf}
@@ -21,10 +22,10 @@ use Rattle.runs.proofs.Invariant.{Closed, At, Inv, start-inv, going-sho
 
 -- ---- a run that goes on has taken few answers
 
-running-short : (s : ℕ) (r : State) (zs : List ℤ) (ps : List ℕ) → Inv s r zs ps → r .phase ≡ running → length zs ≤ 2 * maxPoints * s
+running-short : (s : ℕ) (r : State) (zs : List ℤ) (ps : List ℕ) → Inv s r zs ps → r .phase ≡ running → length zs ≤ 2 * mostPoints * s
 running-short s r zs ps I e = go (r .round) (subst (λ (f : Phase). At s r zs ps f (r .round)) e (I .at))
   where
-    go : (k : ℕ) → At s r zs ps running k → length zs ≤ 2 * maxPoints * s
+    go : (k : ℕ) → At s r zs ps running k → length zs ≤ 2 * mostPoints * s
     go zero (a, b, c) = omega (arith, ap length a)
     go (suc i) g = omega (arith, going-short s i r zs ps g, g .in-range)
 
@@ -49,7 +50,7 @@ module _ (N : ℕ → List Row → List ℤ → Option (List Row)) (right : Righ
   abbrev Goes : ℕ → Type 0
   Goes k =
       (r : State) (zs : List ℤ) (qs : List ℕ) (α : ℕ) → Inv s r zs (qs ++ (α ∷ [])) → r .phase ≡ running → length qs ≡ length zs
-      → Fits s E qs zs → 2 * maxPoints * s < length zs + k → Ends (play N r (truthful N s E k r α))
+      → Fits s E qs zs → 2 * mostPoints * s < length zs + k → Ends (play N r (truthful N s E k r α))
 
   one-answer : (k : ℕ) → Goes k → Goes (suc k)
   unfolding truthful play asks heard

@@ -1,4 +1,4 @@
--- Demand 3, "Key", as one statement over every list of calls on one run (document 01, "The words of demand 3"). Assumes nothing: these are definitions.
+-- Demand 3, "Key", as one statement over every list of calls on one run (document 01, "The words of demand 3").
 --
 --   Call, Event      == an answer, a row fetch or a copy of all rows; the call with what it gave
 --   play, events     == the record and the events after a list of calls: "each call gets the record as the start or the call before left it"
@@ -19,9 +19,10 @@ use mathlib.Core.List.{List, [], _∷_, _++_}
 use Prim.Native.Nat.{ℕ, _+_, _*_, _<_, _≤_}
 use lib.IntN.{ℤ, pos}
 use lib.ListN.{length, getD, take}
+use Rattle.refusals.specs.Limits.{mostPolynomials}
 use Rattle.signs.specs.Lists.{times}
 use Rattle.signs.specs.Lists.{total as sumBelow}
-use Rattle.rounds.specs.Rows.{maxPolynomials, Row, IsAt, Oracle, realized, IsRealized, Fits}
+use Rattle.rounds.specs.Rows.{Row, IsAt, Oracle, realized, IsRealized, Fits}
 use Rattle.rounds.specs.Rounds.{AtEnd, LastEnded, InOrder, RowsAfter}
 use Rattle.rounds.specs.RoundEnd.{roundRows}
 use Rattle.runs.specs.Run.{Step, ask, done, refused, Fetch, row, no-row, Copied, copied, not-copied, Copy, Phase, running, finished, closed, State, startOf, answerOf, fetchOf, copyOf}
@@ -190,7 +191,7 @@ pub record Claim (s : ℕ) (ps : List ℕ) (zs : List ℤ) (f : Phase) (total : 
   pub exact : f ≡ finished → zs ≢ pos 0 ∷ [] → (r : ℕ → ℕ) × ((i : ℕ) → i < s → RowsAfter i zs (r i)) × (r 0 ≡ 1)
       × (total ≡ 1 + 2 * sumBelow r s)
   -- "at most 593"
-  pub most : f ≡ finished → s ≤ maxPolynomials → total ≤ 593
+  pub most : f ≡ finished → s ≤ mostPolynomials → total ≤ 593
 
 -- the claim after a list of calls, for a run that ends its rounds by N
 abbrev pub ClaimFor : (ℕ → List Row → List ℤ → Option (List Row)) → ℕ → List Call → Type 0
@@ -200,4 +201,4 @@ ClaimFor N s calls =
 
 -- DEMAND 3
 abbrev pub Demand3 : Type 0
-Demand3 = (s : ℕ) → 1 ≤ s → s ≤ maxPolynomials → (calls : List Call) → ClaimFor roundRows s calls
+Demand3 = (s : ℕ) → 1 ≤ s → s ≤ mostPolynomials → (calls : List Call) → ClaimFor roundRows s calls

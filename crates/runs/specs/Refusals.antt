@@ -1,5 +1,5 @@
 -- The lines of document 01's table "Cause, and what the caller gets" that concern a run, for every record, also one that no call could have left:
--- "Each number is given for its cause and no other." Assumes nothing: these are definitions.
+-- "Each number is given for its cause and no other."
 --
 --   OutOfFirst z == z is no first answer: below 0 or above 64
 --   Shut r r′    == r′ is r closed: it has one more question and no rows
@@ -12,11 +12,12 @@ use mathlib.Core.List.{List, [], _∷_, _++_}
 use Prim.Native.Nat.{ℕ, suc, _*_, _<_, _≤_}
 use lib.IntN.{ℤ, pos, natAbs}
 use lib.ListN.{length}
-use Rattle.rounds.specs.Rows.{maxPoints, Row}
+use Rattle.refusals.specs.Limits.{mostPoints}
+use Rattle.rounds.specs.Rows.{Row}
 use Rattle.runs.specs.Run.{Step, refused, Fetch, no-row, Copied, not-copied, Phase, running, finished, closed, State, answerOf, fetchOf, copyOf}
 
 abbrev pub OutOfFirst : ℤ → Type 0
-OutOfFirst z = (n : ℕ) → n ≤ maxPoints → z ≢ pos n
+OutOfFirst z = (n : ℕ) → n ≤ mostPoints → z ≢ pos n
 
 abbrev pub Shut : State → State → Type 0
 Shut r r′ = (r′ .phase ≡ closed) × (r′ .rows ≡ []) × (r′ .total ≡ suc (r .total))

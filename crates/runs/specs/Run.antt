@@ -1,11 +1,12 @@
 -- The rules of a run (document 01, "The run"): what its record holds, and what the start, an answer, a row fetch and a copy of all rows give.
--- How a round's rows are found is a parameter N, so that demand 3 rests on `RightRows` of it alone. Assumes nothing: these are definitions.
+-- How a round's rows are found is a parameter N, so that demand 3 rests on `RightRows` of it alone.
 --
---   late, bad-first, bad-later, no-counts, past-last, too-short == the refusal numbers 7, 8, 9, 10, 14, 15
 --   Step         == what an answer gives: "the next product to ask, done, or closed with a refusal number"; 7 after done or closed
 --   Fetch        == what a row fetch gives: a row, or a refusal number
 --   Copy         == what a copy of all rows gives: how many rows, or a refusal number; and the two lent slices as they are left
 --   State        == the run record
+--   newIn f s    == a record for s polynomials in the phase f that has asked nothing
+--   afterAnswer  == the record after an answer that is taken, from its parts
 --   startOf s    == the record of a run for s polynomials before the first answer
 --   productAt i A k == the k-th product of round i + 1, A being the adapted list of the rows before it
 --   answerOf N r z  == the record after the answer z, and the step
@@ -18,28 +19,12 @@ use Prim.Native.Nat.{ℕ, zero, suc, _+_, _*_, _-_, _^_}
 use lib.Dec.{eqb, leb, ltb}
 use lib.IntN.{ℤ, pos, negsuc, natAbs}
 use lib.ListN.{length, getD, drop}
-use Rattle.rounds.specs.Rows.{maxPoints, Row, patterns, rowIf}
+use Rattle.refusals.specs.Numbers.{late, badFirst, badLater, noCounts, pastLast, tooShort}
+use Rattle.refusals.specs.Limits.{mostPoints}
+use Rattle.rounds.specs.Rows.{Row, patterns, rowIf}
 use Rattle.signs.specs.Adapted.{adapted}
 
 -- ---- what a call gives
-
-abbrev pub late : ℕ
-late = 7
-
-abbrev pub bad-first : ℕ
-bad-first = 8
-
-abbrev pub bad-later : ℕ
-bad-later = 9
-
-abbrev pub no-counts : ℕ
-no-counts = 10
-
-abbrev pub past-last : ℕ
-past-last = 14
-
-abbrev pub too-short : ℕ
-too-short = 15
 
 pub data Step : Type 0 where
   ask : ℕ → Step
@@ -74,8 +59,18 @@ pub record State : Type 0 where
   pub products : List ℕ  -- their adapted list, while the run goes on
   pub answers : List ℤ  -- those of this round so far
 
+-- a record before any answer
+abbrev pub newIn : Phase → ℕ → State
+newIn f s = record { polynomials = s; total = 0; phase = f; round = 0; n = 0; rows = []; products = []; answers = [] }
+
+-- the record r after an answer that is taken: one question more, in the phase f and the round i, with the first answer n, the rows R, their
+-- adapted list A and the round's answers ws
+abbrev pub afterAnswer : State → Phase → ℕ → ℕ → List Row → List ℕ → List ℤ → State
+afterAnswer r f i n R A ws =
+    record { polynomials = r .polynomials; total = suc (r .total); phase = f; round = i; n = n; rows = R; products = A; answers = ws }
+
 abbrev pub startOf : ℕ → State
-startOf s = record { polynomials = s; total = 0; phase = running; round = 0; n = 0; rows = []; products = []; answers = [] }
+startOf s = newIn running s
 
 -- ---- an answer
 
@@ -84,44 +79,34 @@ unfoldable pub productAt : ℕ → List ℕ → ℕ → ℕ
 productAt i A k = cond (ltb k (length A)) (getD A k 0 + 3 ^ i) (getD A (k - length A) 0 + 2 * 3 ^ i)
 
 module _ (N : ℕ → List Row → List ℤ → Option (List Row)) where
-  -- the record closed, with one more question and no rows
+  -- the record closed: no rows
   abbrev pub close : State → ℕ → State × Step
-  close r k = (
-    record { polynomials = r .polynomials; total = suc (r .total); phase = closed; round = r .round; n = r .n; rows = []; products = []; answers = [] },
-    refused k,
-  )
+  close r k = (afterAnswer r closed (r .round) (r .n) [] [] [], refused k)
 
   -- round i has ended with rows R, the first answer being n: the run is done, or the next round begins
   abbrev pub ended : State → ℕ → ℕ → List Row → Bool → State × Step
-  ended r i n R true =
-      (record { polynomials = r .polynomials; total = suc (r .total); phase = finished; round = i; n = n; rows = R; products = []; answers = [] }, done)
-  ended r i n R false = (
-    record { polynomials = r .polynomials; total = suc (r .total); phase = running; round = suc i; n = n; rows = R; products = adapted i (patterns R); answers = [] },
-    ask (productAt i (adapted i (patterns R)) 0),
-  )
+  ended r i n R true = (afterAnswer r finished i n R [] [], done)
+  ended r i n R false = let A = adapted i (patterns R) in (afterAnswer r running (suc i) n R A [], ask (productAt i A 0))
 
   abbrev pub endRound : State → ℕ → Option (List Row) → State × Step
-  endRound r i none = close r no-counts
+  endRound r i none = close r noCounts
   endRound r i (some R) = ended r (suc i) (r .n) R (eqb (suc i) (r .polynomials))
 
   -- round i + 1 has the answers ws so far: it goes on, or it ends
   abbrev pub goOn : State → ℕ → List ℤ → Bool → State × Step
-  goOn r i ws true = (
-    record { polynomials = r .polynomials; total = suc (r .total); phase = running; round = suc i; n = r .n; rows = r .rows; products = r .products; answers = ws },
-    ask (productAt i (r .products) (length ws)),
-  )
+  goOn r i ws true = (afterAnswer r running (suc i) (r .n) (r .rows) (r .products) ws, ask (productAt i (r .products) (length ws)))
   goOn r i ws false = endRound r i (N i (r .rows) ws)
 
   -- the answer of round 0, and one of round i + 1
   abbrev pub first : State → ℤ → State × Step
-  first r (pos n) = cond (leb n maxPoints) (ended r 0 n (rowIf 0 n) (eqb n 0)) (close r bad-first)
-  first r (negsuc n) = close r bad-first
+  first r (pos n) = cond (leb n mostPoints) (ended r 0 n (rowIf 0 n) (eqb n 0)) (close r badFirst)
+  first r (negsuc n) = close r badFirst
 
   abbrev pub later : State → ℕ → ℤ → State × Step
   later r i z =
       cond (leb (natAbs z) (r .n))
       (goOn r i (r .answers ++ (z ∷ [])) (ltb (length (r .answers ++ (z ∷ []))) (2 * length (r .products))))
-      (close r bad-later)
+      (close r badLater)
 
   abbrev pub inRound : State → ℕ → ℤ → State × Step
   inRound r zero z = first r z
@@ -139,7 +124,7 @@ module _ (N : ℕ → List Row → List ℤ → Option (List Row)) where
 
 unfoldable pub fetchRule : Phase → List Row → ℕ → Fetch
 fetchRule running R p = no-row late
-fetchRule finished R p = cond (ltb p (length R)) (row (getD R p (record { pattern = 0; count = 0 }))) (no-row past-last)
+fetchRule finished R p = cond (ltb p (length R)) (row (getD R p (record { pattern = 0; count = 0 }))) (no-row pastLast)
 fetchRule closed R p = no-row late
 
 unfoldable pub fetchOf : State → ℕ → Fetch
@@ -158,8 +143,8 @@ copyRule finished R a b =
       patterns-left = map (λ r. r .pattern) R ++ drop (length R) a;
       counts-left = map (λ r. r .count) R ++ drop (length R) b;
     })
-    (kept too-short a b))
-    (kept too-short a b)
+    (kept tooShort a b))
+    (kept tooShort a b)
 copyRule closed R a b = kept late a b
 
 unfoldable pub copyOf : State → List ℕ → List ℕ → Copy

@@ -1,4 +1,4 @@
--- The run of an oracle that "truthfully answers each product asked" (demand 3). Assumes nothing: these are definitions.
+-- The run of an oracle that "truthfully answers each product asked" (demand 3).
 --
 --   truthful N s E k r α == the answers of the oracle E from the record r, which has asked the product α: k of them, or fewer where a step
 --                           asks nothing more
@@ -9,8 +9,9 @@ use mathlib.Core.Option.{Option}
 use mathlib.Core.List.{List, [], _∷_}
 use Prim.Native.Nat.{ℕ, zero, suc, _*_, _≤_}
 use lib.IntN.{ℤ}
+use Rattle.refusals.specs.Limits.{mostPoints}
 use Rattle.signs.specs.Signs.{query}
-use Rattle.rounds.specs.Rows.{maxPoints, Row, Oracle, realized}
+use Rattle.rounds.specs.Rows.{Row, Oracle, realized}
 use Rattle.runs.specs.Run.{Step, ask, done, refused, finished, State, startOf, answerOf}
 use Rattle.runs.specs.Demand.{Call, answer, play}
 
@@ -26,7 +27,7 @@ truthful N s E (suc k) r α =
     answer (query s E α) ∷ onward (answerOf N r (query s E α) .1) (truthful N s E k (answerOf N r (query s E α) .0))
 
 abbrev pub enough : ℕ → ℕ
-enough s = suc (2 * maxPoints * s)
+enough s = suc (2 * mostPoints * s)
 
 abbrev pub TruthfulRuns : (ℕ → List Row → List ℤ → Option (List Row)) → Type 0
 TruthfulRuns N =

@@ -1,8 +1,8 @@
 -- What the proofs of the thin functions over a lent record say beside `determination`'s `Thin`. Assumes `Given`.
 --
 --   unsigned     == the `Data` of the unsigned integers
---   RunD, TurnD, ToldD == that of a run's record, of the record after a call with what it tells, and of that
---   run-of, told-of == the relation of each field of such a pair
+--   RunD, AnsweredD, StepD == that of a run's record, of the record after a call with what it tells, and of that
+--   run-of, step-of == the relation of each field of such a pair
 --   looked, shut == a `&D` is looked into, which gives a share of the cell; and shut again
 use mathlib.Core.List.{List, [], _∷_}
 use Prim.Native.Nat.{ℕ}
@@ -22,11 +22,11 @@ use denote.Struct.Laws as LL
 use Rattle.determination.proofs.Thin.{Data, Good, struct, owned-of}
 use Rattle.determination.proofs.Run as R
 use Rattle.determination.proofs.Run.Laws as R′
-use Rattle.tarski.specs.declared.Turn.{Turn}
-use Rattle.tarski.proofs.Turn as P
-use Rattle.tarski.proofs.Turn.Laws as P′
-use Rattle.tarski.proofs.Told as T
-use Rattle.tarski.proofs.Told.Laws as T′
+use Rattle.tarski.specs.declared.FlatAnswered.{FlatAnswered}
+use Rattle.tarski.proofs.FlatAnswered as P
+use Rattle.tarski.proofs.FlatAnswered.Laws as P′
+use Rattle.tarski.proofs.FlatStep as T
+use Rattle.tarski.proofs.FlatStep.Laws as T′
 
 abbrev pub unsigned : Width → Data
 unsigned w = record {
@@ -41,17 +41,17 @@ unsigned w = record {
 abbrev pub RunD : Data
 RunD = struct R.the-type R′.the-laws R′.the-plain R′.the-copy
 
-abbrev pub TurnD : Data
-TurnD = struct P.the-type P′.the-laws P′.the-plain P′.the-copy
+abbrev pub AnsweredD : Data
+AnsweredD = struct P.the-type P′.the-laws P′.the-plain P′.the-copy
 
-abbrev pub ToldD : Data
-ToldD = struct T.the-type T′.the-laws T′.the-plain T′.the-copy
+abbrev pub StepD : Data
+StepD = struct T.the-type T′.the-laws T′.the-plain T′.the-copy
 
-pub run-of : (r : Turn) → Good TurnD r → Good RunD (r .run)
+pub run-of : (r : FlatAnswered) → Good AnsweredD r → Good RunD (r .run)
 run-of r is = LL.owed P.the-type P′.the-laws r _ is .0
 
-pub told-of : (r : Turn) → Good TurnD r → Good ToldD (r .told)
-told-of r is = LL.owed P.the-type P′.the-laws r _ is .1 .0
+pub step-of : (r : FlatAnswered) → Good AnsweredD r → Good StepD (r .step)
+step-of r is = LL.owed P.the-type P′.the-laws r _ is .1 .0
 
 module _ {M : Type 1} {𝓤 : URA M} {H : Heap 𝓤} {A : Atoms 𝓤} {K : Type 0} {W : Given 𝓤 H A} {Γ : List (Item 𝓤)} {G : Goal 𝓤 H} where
   -- a share of the cell with what D owns: the machine value is written out, its relation is learned, and what D owns is dropped

@@ -1,18 +1,20 @@
--- The answers of the calls as plain numbers, for C and Rust: a refusal number beside the result, 0 where nothing is refused. Assumes nothing: these are
--- definitions.
+-- The answers of the calls as plain numbers, for C and Rust: a refusal number beside the result, 0 where nothing is refused.
 --
---   cardOf a    == s and n of a sound card; no polynomials and no points where it is refused
---   numberOf a  == a query, or 0 where it is refused
---   refusalOf a == the number that refuses a solver's call, or 0
---   toldOf a    == a step of a run: 0 with the product to ask, 1 done, 2 with the number that refuses
---   turnOf t    == the record after a call on a run, and its step as plain numbers
---   keptOn r t  == the record and the step t of a start in the lent record r: refused, it is as it was (3: "all lent memory; no run begins")
---   rowOf a     == a row fetched; 0 and 0 where it is refused
---   copiedOf a  == how many rows were copied; none where it is refused
---   leftOf c    == the same with the two slices as they are left
+--   cardOf a         == s and n of a sound card; no polynomials and no points where it is refused
+--   numberOf a       == a query, or 0 where it is refused
+--   refusalOf a      == the number that refuses a solver's call, or 0
+--   flatStepOf a     == a step of a run: 0 with the product to ask, 1 done, 2 with the number that refuses
+--   flatAnsweredOf t == the record after a call on a run, and its step as plain numbers
+--   keptOn r t       == the record and the step t of a start in the lent record r: refused, it is as it was (3: "all lent memory; no run begins")
+--   AnswerGivesFlat run a run′ step == what an answer promises, `AnswerGives`, with the step as plain numbers
+--   StartGivesFlat run s run′ step  == what a start for s in the lent record run promises of the record run′ after it and of the step
+--   rowOf a          == a row fetched; 0 and 0 where it is refused
+--   copiedOf a       == how many rows were copied; none where it is refused
+--   leftOf c         == the same with the two slices as they are left
+use mathlib.Core.Path.{_≡_}
 use mathlib.Core.List.{List}
 use Prim.Native.Nat.{ℕ}
-use lib.IntN.{pos}
+use lib.IntN.{ℤ, pos}
 use Rattle.card.specs.declared.Card.{Card}
 use Rattle.card.specs.declared.Card.the-variants as of-card
 use Rattle.query.specs.declared.Answer.{Answer}
@@ -20,9 +22,12 @@ use Rattle.query.specs.declared.Answer.the-variants as of-query
 use Rattle.solver.specs.declared.Solved.{Solved}
 use Rattle.solver.specs.declared.Solved.the-variants as of-solver
 use Rattle.runs.specs.Run.{State, Step, ask, done, refused, Fetch, row, no-row, Copied, copied, not-copied, Copy}
+use Rattle.refusals.specs.Numbers.{wrongCount}
+use Rattle.determination.specs.Record.{stateOf, AnswerGives, startedOf}
+use Rattle.determination.specs.declared.Run.{Run}
 use Rattle.tarski.specs.declared.Checked.{Checked}
 use Rattle.tarski.specs.declared.Number.{Number}
-use Rattle.tarski.specs.declared.Told.{Told}
+use Rattle.tarski.specs.declared.FlatStep.{FlatStep}
 use Rattle.tarski.specs.declared.FlatRow.{FlatRow}
 use Rattle.tarski.specs.declared.FlatCopied.{FlatCopied}
 
@@ -38,18 +43,26 @@ unfoldable pub refusalOf : Solved → ℕ
 refusalOf of-solver.Found = 0
 refusalOf (of-solver.Refused k) = k
 
-unfoldable pub toldOf : Step → Told
-toldOf (ask p) = record { kind = 0; value = p }
-toldOf done = record { kind = 1; value = 0 }
-toldOf (refused k) = record { kind = 2; value = k }
+unfoldable pub flatStepOf : Step → FlatStep
+flatStepOf (ask p) = record { kind = 0; value = p }
+flatStepOf done = record { kind = 1; value = 0 }
+flatStepOf (refused k) = record { kind = 2; value = k }
 
-abbrev pub turnOf : State × Step → State × Told
-turnOf t = (t .0, toldOf (t .1))
+abbrev pub flatAnsweredOf : State × Step → State × FlatStep
+flatAnsweredOf t = (t .0, flatStepOf (t .1))
 
 unfoldable pub keptOn : State → State × Step → State × Step
 keptOn r (begun, ask p) = (begun, ask p)
 keptOn r (begun, done) = (begun, done)
 keptOn r (begun, refused k) = (r, refused k)
+
+abbrev pub AnswerGivesFlat : Run → ℤ → Run → FlatStep → Type 0
+AnswerGivesFlat run a run′ step = (x : Step) × AnswerGives run a run′ x × (step ≡ flatStepOf x)
+
+-- where it is refused the record is as it was, whatever it holds
+abbrev pub StartGivesFlat : Run → ℕ → Run → FlatStep → Type 0
+StartGivesFlat run s run′ step =
+    ((stateOf run′, step) ≡ flatAnsweredOf (keptOn (stateOf run) (startedOf s))) × (step ≡ flatStepOf (refused wrongCount) → run′ ≡ run)
 
 unfoldable pub rowOf : Fetch → FlatRow
 rowOf (row r) = record { pattern = r .pattern; count = r .count; refusal = 0 }

@@ -5,10 +5,9 @@ ghost use Rattle.card.specs.Answers.{reading};
 ghost use Rattle.query.specs.Query.{queryAnswer};
 ghost use Rattle.solver.specs.Solving.{solveOf};
 ghost use Rattle.query.specs.Opened.{opened, answer as askedOf};
-ghost use Rattle.rounds.specs.RoundEnd.{roundRows};
-ghost use Rattle.runs.specs.Run.{answerOf, fetchOf, copyOf, refused, late};
-ghost use Rattle.determination.specs.Record.{stateOf, stepOf, startedOf, outside-limits};
-ghost use Rattle.tarski.specs.Flat.{cardOf, numberOf, refusalOf, toldOf, turnOf, keptOn, rowOf, leftOf};
+ghost use Rattle.runs.specs.Run.{fetchOf, copyOf};
+ghost use Rattle.determination.specs.Record.{stateOf, stepOf};
+ghost use Rattle.tarski.specs.Flat.{cardOf, numberOf, refusalOf, flatStepOf, AnswerGivesFlat, StartGivesFlat, rowOf, leftOf};
 use card::Card;
 use determination::Copied;
 use determination::Fetched;
@@ -21,6 +20,7 @@ use determination::fetch_row;
 use determination::start;
 use query::Answer;
 use query::Opened;
+use refusals::NONE;
 use signs::Product;
 use solver::Solved;
 
@@ -48,7 +48,7 @@ const REFUSED: u16 = 2;
 
 // What a call on a run gives: 0 with the product to ask, 1 where it is done, 2 with the number that refuses.
 #[repr(C)]
-pub struct Told {
+pub struct FlatStep {
     pub kind: u16,
     pub value: u16,
 }
@@ -69,9 +69,9 @@ pub struct FlatCopied {
 }
 
 // The record after a call, and what the call gives.
-struct Turn {
+struct FlatAnswered {
     run: Run,
-    told: Told,
+    step: FlatStep,
 }
 
 // ---- cards and queries
@@ -85,7 +85,7 @@ pub extern "C" fn tarski_check(card: &[u8]) -> Checked
         Card::Sound { s, n } => Checked {
             polynomials: s,
             points: n,
-            refusal: 0,
+            refusal: NONE,
         },
         Card::Refused(k) => Checked {
             polynomials: 0,
@@ -102,7 +102,7 @@ fn flat(answer: Answer) -> Number
     match answer {
         Answer::Number(x) => Number {
             number: x,
-            refusal: 0,
+            refusal: NONE,
         },
         Answer::Refused(k) => Number {
             number: 0,
@@ -151,7 +151,7 @@ pub extern "C" fn tarski_solve(s: usize, patterns: &[u16], numbers: &[i64], out:
     ensures { λ _. ⌜ now (out .exit) ≡ solveOf s (now (patterns .entry)) (now (numbers .entry)) (now (out .entry)) .1 ⌝ }
 {
     match solver::solve(s, patterns, numbers, out) {
-        Solved::Found => 0,
+        Solved::Found => NONE,
         Solved::Refused(k) => k,
     }
 }
@@ -159,19 +159,19 @@ pub extern "C" fn tarski_solve(s: usize, patterns: &[u16], numbers: &[i64], out:
 // ---- the run
 
 // A step as plain numbers.
-fn tell(step: Step) -> Told
-    ensures { λ r. ⌜ r ≡ toldOf (stepOf step) ⌝ }
+fn flat_step(step: Step) -> FlatStep
+    ensures { λ r. ⌜ r ≡ flatStepOf (stepOf step) ⌝ }
 {
     match step {
-        Step::Ask(p) => Told {
+        Step::Ask(p) => FlatStep {
             kind: ASK,
             value: p.0,
         },
-        Step::Done => Told {
+        Step::Done => FlatStep {
             kind: DONE,
             value: 0,
         },
-        Step::Refused(k) => Told {
+        Step::Refused(k) => FlatStep {
             kind: REFUSED,
             value: k,
         },
@@ -179,56 +179,56 @@ fn tell(step: Step) -> Told
 }
 
 // The record of a new run for s polynomials, and what the start gives. Where it is refused, the record is the one before.
-fn started(run: Run, s: usize) -> Turn
-    ensures { λ r. ⌜ ((stateOf (r .run), r .told) ≡ turnOf (keptOn (stateOf run) (startedOf s))) × (r .told ≡ toldOf (refused outside-limits) → r .run ≡ run) ⌝ }
+fn started(run: Run, s: usize) -> FlatAnswered
+    ensures { λ r. ⌜ StartGivesFlat run s (r .run) (r .step) ⌝ }
 {
     let first = start(s);
     let step = first.step;
-    let told = tell(step);
-    if told.kind == REFUSED {
-        return Turn {
+    let shown = flat_step(step);
+    if shown.kind == REFUSED {
+        return FlatAnswered {
             run: run,
-            told: told,
+            step: shown,
         };
     }
     let begun = first.run;
-    Turn {
+    FlatAnswered {
         run: begun,
-        told: told,
+        step: shown,
     }
 }
 
 // The record after an answer, and what it gives.
-fn answered(run: Run, a: i64) -> Turn
-    ensures { λ r. ⌜ ((stateOf (r .run), r .told) ≡ turnOf (answerOf roundRows (stateOf run) a)) × (r .told ≡ toldOf (refused late) → r .run ≡ run) ⌝ }
+fn answered(run: Run, a: i64) -> FlatAnswered
+    ensures { λ r. ⌜ AnswerGivesFlat run a (r .run) (r .step) ⌝ }
 {
     let next = answer(run, a);
     let after = next.run;
     let step = next.step;
-    Turn {
+    FlatAnswered {
         run: after,
-        told: tell(step),
+        step: flat_step(step),
     }
 }
 
 // Starts a run for s polynomials in the lent record. Where s is refused, no run begins and the record is as it was.
 #[no_mangle]
-pub extern "C" fn tarski_start(run: &mut Run, s: usize) -> Told
-    ensures { λ r. ⌜ ((stateOf (now (run .exit)), r) ≡ turnOf (keptOn (stateOf (now (run .entry))) (startedOf s))) × (r ≡ toldOf (refused outside-limits) → now (run .exit) ≡ now (run .entry)) ⌝ }
+pub extern "C" fn tarski_start(run: &mut Run, s: usize) -> FlatStep
+    ensures { λ r. ⌜ StartGivesFlat (now (run .entry)) s (now (run .exit)) r ⌝ }
 {
-    let turn = started(*run, s);
-    *run = turn.run;
-    turn.told
+    let next = started(*run, s);
+    *run = next.run;
+    next.step
 }
 
 // Gives the run in the lent record an answer. Where it comes too late, the record is as it was.
 #[no_mangle]
-pub extern "C" fn tarski_answer(run: &mut Run, a: i64) -> Told
-    ensures { λ r. ⌜ ((stateOf (now (run .exit)), r) ≡ turnOf (answerOf roundRows (stateOf (now (run .entry))) a)) × (r ≡ toldOf (refused late) → now (run .exit) ≡ now (run .entry)) ⌝ }
+pub extern "C" fn tarski_answer(run: &mut Run, a: i64) -> FlatStep
+    ensures { λ r. ⌜ AnswerGivesFlat (now (run .entry)) a (now (run .exit)) r ⌝ }
 {
-    let turn = answered(*run, a);
-    *run = turn.run;
-    turn.told
+    let next = answered(*run, a);
+    *run = next.run;
+    next.step
 }
 
 // How many questions the run in the lent record has asked.
@@ -247,7 +247,7 @@ fn row_at(run: Run, p: usize) -> FlatRow
         Fetched::Row(row) => FlatRow {
             pattern: row.pattern.0,
             count: row.count,
-            refusal: 0,
+            refusal: NONE,
         },
         Fetched::Refused(k) => FlatRow {
             pattern: 0,
@@ -272,7 +272,7 @@ fn rows_to(run: Run, patterns: &mut [u16], counts: &mut [u16]) -> FlatCopied
     match copy_rows(run, patterns, counts) {
         Copied::Rows(n) => FlatCopied {
             rows: n,
-            refusal: 0,
+            refusal: NONE,
         },
         Copied::Refused(k) => FlatCopied {
             rows: 0,

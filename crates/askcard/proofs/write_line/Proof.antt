@@ -1,4 +1,4 @@
--- `askcard::write_line` is safe: of a line at most all its bytes are written. Assumes nothing.
+-- `askcard::write_line` is safe: of a line at most all its bytes are written.
 use mathlib.Core.Path.{sym}
 use native.Mathlib.Omega.{arith}
 use lib.Seq.{length-take-le}

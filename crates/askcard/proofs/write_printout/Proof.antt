@@ -1,14 +1,15 @@
--- `askcard::write_printout` is safe, and ends after at most 658 lines. Assumes nothing.
+-- `askcard::write_printout` is safe, and ends after at most `mostLines` lines.
 use Prim.Native.Nat.{_-_, _≤_}
+use Rattle.printout.specs.Written.{mostLines}
 use borrow.Author.Needs.{needs}
 use Rattle.askcard.proofs.write_printout.Statement.{statement}
 use Rattle.askcard.proofs.write_printout.Tie as tie
 
 abbrev Inv-loop : tie.InvT-loop
-Inv-loop card play₀ k₀ play k = k ≤ 658
+Inv-loop card progress₀ k₀ progress k = k ≤ mostLines
 
 abbrev μ-loop : tie.MeasureT-loop
-μ-loop card play₀ k₀ play k = 658 - k
+μ-loop card progress₀ k₀ progress k = mostLines - k
 
 begin-requires : tie.Need-begin-requires Inv-loop μ-loop
 begin-requires c κs = search needs

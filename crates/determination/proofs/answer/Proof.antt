@@ -1,5 +1,5 @@
--- `determination::answer` meets its contract: the rules of a run that goes on, or the record as it was. Assumes nothing.
-use mathlib.Core.Path.{_≡_, refl, sym, ap, _∙_}
+-- `determination::answer` meets its contract: the rules of a run that goes on, or the record as it was.
+use mathlib.Core.Path.{_≡_, refl, sym, _∙_}
 use mathlib.Core.Bool.{true, false}
 use native.Mathlib.Omega.{arith}
 use borrow.Author.Needs.{needs}
@@ -7,10 +7,9 @@ use borrow.Author.Tests.{not-true, not-false}
 use mir.Syntax.{w64}
 use mir.ValLaws.{toZ-ofZ}
 use Rattle.rounds.specs.RoundEnd.{roundRows}
-use Rattle.runs.specs.Run.{State, Step}
-use Rattle.runs.proofs.Steps.{answer-first, answer-later, not-late}
+use Rattle.runs.proofs.Steps.{answer-first, answer-later}
 use Rattle.determination.specs.Record.{isRunning, runningState}
-use Rattle.determination.proofs.Records.{running-is, answer-late}
+use Rattle.determination.proofs.Records.{running-gives, late-gives}
 use Rattle.determination.proofs.answer.Statement.{statement}
 use Rattle.determination.proofs.answer.Tie as tie
 
@@ -28,7 +27,7 @@ returns : tie.Need-returns
 returns c =
     let st = c .before .before .before in
     let e : isRunning (st .args .run) ≡ false = sym (c .before .before .running .ensures) ∙ not-true (c .before .before .running .result) (c .before .if1 .taken) in
-    rw (c .late .ensures) (sym (answer-late roundRows (st .args .run) (st .args .a) e), λ _. refl)
+    rw (c .late .ensures) (late-gives (st .args .run) (st .args .a) e)
 
 first-requires : tie.Need-first-requires
 first-requires c κs = (goes (c .before .before), c .if2 .taken)
@@ -36,10 +35,8 @@ first-requires c κs = (goes (c .before .before), c .if2 .taken)
 returns-2 : tie.Need-returns-2
 returns-2 c =
     let st = c .before .before .before .before .before in
-    let r = rw (toZ-ofZ w64 (st .args .a) (st .fits .a)) at (c .first .ensures) ∙ sym (answer-first roundRows (runningState (st .args .run)) (st .args .a) refl (c .before .if2 .taken)) in (
-      rw (running-is (st .args .run) (goes (c .before .before .before))) r,
-      λ e. absurd (not-late roundRows (runningState (st .args .run)) (st .args .a) refl (sym (ap (λ (o : State × Step). o .1) r) ∙ e)),
-    )
+    let r = rw (toZ-ofZ w64 (st .args .a) (st .fits .a)) at (c .first .ensures) ∙ sym (answer-first roundRows (runningState (st .args .run)) (st .args .a) refl (c .before .if2 .taken)) in
+    running-gives (st .args .run) _ (st .args .a) _ (goes (c .before .before .before)) r
 
 later-requires : tie.Need-later-requires
 later-requires c κs = let h = c .if2 .left in (goes (c .before .before), omega arith)
@@ -48,10 +45,8 @@ returns-3 : tie.Need-returns-3
 returns-3 c =
     let st = c .before .before .before .before .before in
     let h = c .before .if2 .left in
-    let r = rw (toZ-ofZ w64 (st .args .a) (st .fits .a)) at (c .later .ensures) ∙ sym (answer-later roundRows (runningState (st .args .run)) (st .args .a) refl (omega arith)) in (
-      rw (running-is (st .args .run) (goes (c .before .before .before))) r,
-      λ e. absurd (not-late roundRows (runningState (st .args .run)) (st .args .a) refl (sym (ap (λ (o : State × Step). o .1) r) ∙ e)),
-    )
+    let r = rw (toZ-ofZ w64 (st .args .a) (st .fits .a)) at (c .later .ensures) ∙ sym (answer-later roundRows (runningState (st .args .run)) (st .args .a) refl (omega arith)) in
+    running-gives (st .args .run) _ (st .args .a) _ (goes (c .before .before .before)) r
 
 pub answer-spec : {M : Type 1} → statement M
 answer-spec =

@@ -1,15 +1,13 @@
 -- `determination::answer_lent` meets its contract: a walk of its MIR, by hand. The borrow is opened, which gives the record's cell; the record is
 -- copied out of it and passed to `answer`; of the struct that comes back the new record is stored over the old one, and the borrow is closed at it;
--- and the step is the result. All that the proof knows of `answer` is that it meets its contract. Assumes nothing.
+-- and the step is the result. All that the proof knows of `answer` is that it meets its contract.
 use mathlib.Core.Path.{_≡_, refl}
 use mathlib.Core.List.{[], _∷_, List}
 use Prim.Native.Nat.{ℕ}
 use lib.IntN.{ℤ}
 use mir.Syntax.{named, w64}
 use mir.Val.{Val, vptr}
-use Rattle.rounds.specs.RoundEnd.{roundRows}
-use Rattle.runs.specs.Run.{answerOf, refused, late}
-use Rattle.determination.specs.Record.{stateOf, stepOf}
+use Rattle.determination.specs.Record.{stepOf, AnswerGives}
 use Rattle.determination.specs.declared.Run.{Run}
 use Rattle.determination.specs.declared.Answered.{Answered}
 use Rattle.determination.proofs.Thin.{Data, Good, struct, enum, signed, owned-of, opened, closed, calls-plain}
@@ -55,7 +53,7 @@ use Rattle.determination.proofs.answer_lent as answer
 use Rattle.determination.proofs.answer_lent.Statement as stated
 use Rattle.determination.proofs.answer_lent.Code as code
 
--- the types of the walk, with their laws: the record, what `take_answer` returns, the answer in it, and the number passed
+-- the types of the walk, with their laws: the record, what `answer` returns, the answer in it, and the number passed
 abbrev RunD : Data
 RunD = struct T.the-type T′.the-laws T′.the-plain T′.the-copy
 
@@ -70,7 +68,7 @@ NumD = signed w64
 
 -- what `answer` promises of its result
 abbrev Gives : Run → ℤ → Answered → Type 0
-Gives h z r = ((stateOf (r .run), stepOf (r .step)) ≡ answerOf roundRows (stateOf h) z) × (stepOf (r .step) ≡ refused late → r .run ≡ h)
+Gives h z r = AnswerGives h z (r .run) (stepOf (r .step))
 
 -- a struct's relation has that of each field
 run-of : (r : Answered) → Good PairD r → Good RunD (r .run)
@@ -122,7 +120,7 @@ module _ {M : Type 1} (𝓤 : URA M) (H : Heap 𝓤) (A : Atoms 𝓤) (W : Given
         -- [the record's cell; the open borrow; obs; auth; _4; …; _3; …; _2; …; _1; …; room for _0; …]
         -- _4 = *run
         assigns ! (of-opd ! (load ! (from ! (hop ! (look ! 10 refl) (stop !))) (look-raw ! 0 refl))) (from ! (stop !)) (init ! 4 refl (RunD .lawful 𝓤 H A W .typed h _ h-is .0)) $
-        -- _3 = take_answer(_4, a)
+        -- _3 = answer(_4, a)
         use0 W (raw (Take 𝓤 H A at-mem run .pre to)) (asked h-is) $
         calls-plain ! fm take.ended (take.clauses 𝓤 H A at-mem run) known to (and-then ! (load ! (from ! (stop !)) (look ! 5 refl)) (and-then ! (load ! (from ! (stop !)) (look ! 9 refl)) (no-more !)))
         (PairD .val) (PairD .tells) (Gives h z) (λ r _. id⊢ 𝓤 _) (λ r e r-is. drop ! $

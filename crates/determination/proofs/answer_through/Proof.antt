@@ -1,6 +1,6 @@
 -- `determination::answer_through` meets its contract: a walk of its MIR, by hand. The record in the local `kept` is lent for a lifetime that is made
 -- for the call; `answer_lent` is called; the lifetime ends, and the record comes back at the last value that `answer_lent` ensures. All that the
--- proof knows of `answer_lent` is that it meets its contract. Assumes nothing.
+-- proof knows of `answer_lent` is that it meets its contract.
 use mathlib.Core.Path.{_≡_, refl, ap, subst}
 use mathlib.Core.List.{[], _∷_, List}
 use lib.IntN.{ℤ}
@@ -36,9 +36,7 @@ use denote.Triple.Table.{entered, cited}
 use denote.Triple.Clauses.{ensured, lasts}
 use denote.Triple.Walked.{says, Stays, stay-none, walkOf, goes-none, ends-at, walked, walk-meets}
 use denote.Exit.{yes}
-use Rattle.rounds.specs.RoundEnd.{roundRows}
-use Rattle.runs.specs.Run.{answerOf, refused, late}
-use Rattle.determination.specs.Record.{stateOf, stepOf}
+use Rattle.determination.specs.Record.{stepOf, AnswerGives}
 use Rattle.determination.specs.declared.Run.{Run}
 use Rattle.determination.specs.declared.Step.{Step}
 use Rattle.determination.specs.declared.Answered.{Answered}
@@ -79,7 +77,7 @@ both s r = record { run = r; step = s }
 
 -- what `answer_lent` promises of its result and of the record's last value
 abbrev Gives : Run → ℤ → Answered → Type 0
-Gives h z r = ((stateOf (r .run), stepOf (r .step)) ≡ answerOf roundRows (stateOf h) z) × (stepOf (r .step) ≡ refused late → r .run ≡ h)
+Gives h z r = AnswerGives h z (r .run) (stepOf (r .step))
 
 -- a struct's relation is made of its fields'
 both-is : (s : Step) (r : Run) → Good StepD s → Good RunD r → Good PairD (both s r)

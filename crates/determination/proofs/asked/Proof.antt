@@ -1,4 +1,4 @@
--- `determination::asked` meets its contract: whatever the record stands for, it has the number asked. Assumes nothing.
+-- `determination::asked` meets its contract: whatever the record stands for, it has the number asked.
 use Rattle.determination.proofs.Serves.{total-asked}
 use Rattle.determination.proofs.asked.Statement.{statement}
 use Rattle.determination.proofs.asked.Tie as tie

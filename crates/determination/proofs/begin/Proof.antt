@@ -1,4 +1,4 @@
--- `determination::begin` meets its contract. Assumes nothing.
+-- `determination::begin` meets its contract.
 use mathlib.Core.Path.{ap}
 use Prim.Native.Nat.{_^_, _≤_}
 use native.Mathlib.Omega.{arith}

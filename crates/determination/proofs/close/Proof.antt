@@ -1,8 +1,8 @@
--- `determination::close` meets its contract. Assumes nothing.
+-- `determination::close` meets its contract.
 use mathlib.Core.Path.{refl}
 use native.Mathlib.Numerals.{add-one}
 use borrow.Author.Needs.{needs}
-use Rattle.determination.specs.Record.{stateOf, isRunning, isDone}
+use Rattle.determination.specs.Record.{stateOf, runPhase, isRunning, isDone}
 use Rattle.determination.proofs.close.Statement.{statement}
 use Rattle.determination.proofs.close.Tie as tie
 
@@ -10,7 +10,7 @@ add-run : tie.Need-add-run
 add-run c = search needs
 
 returns : tie.Need-returns
-unfolding stateOf isRunning isDone
+unfolding stateOf runPhase isRunning isDone
 returns c = rw (add-one) refl
 
 pub close-spec : {M : Type 1} → statement M

@@ -1,4 +1,4 @@
--- `determination::copy_rows` meets its contract. Assumes nothing.
+-- `determination::copy_rows` meets its contract.
 use mathlib.Core.Path.{_≡_, sym, _∙_}
 use mathlib.Core.Bool.{true}
 use native.Mathlib.Omega.{arith}

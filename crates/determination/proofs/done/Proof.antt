@@ -1,4 +1,4 @@
--- `determination::done` meets its contract. Assumes nothing.
+-- `determination::done` meets its contract.
 use Rattle.determination.proofs.Records.{test-not-done, test-done}
 use Rattle.determination.proofs.done.Statement.{statement}
 use Rattle.determination.proofs.done.Tie as tie

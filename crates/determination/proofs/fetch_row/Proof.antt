@@ -1,4 +1,4 @@
--- `determination::fetch_row` meets its contract. Assumes nothing.
+-- `determination::fetch_row` meets its contract.
 use mathlib.Core.Path.{_≡_, sym, _∙_}
 use mathlib.Core.Bool.{true}
 use Prim.Native.Nat.{_<_}

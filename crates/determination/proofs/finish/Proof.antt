@@ -1,9 +1,9 @@
--- `determination::finish` meets its contract. Assumes nothing.
+-- `determination::finish` meets its contract.
 use mathlib.Core.Path.{refl}
 use native.Mathlib.Numerals.{add-one}
 use borrow.Author.Needs.{needs}
 use borrow.Author.Tests.{le-leb}
-use Rattle.determination.specs.Record.{stateOf, isRunning, isDone}
+use Rattle.determination.specs.Record.{stateOf, runPhase, isRunning, isDone}
 use Rattle.determination.proofs.finish.Statement.{statement}
 use Rattle.determination.proofs.finish.Tie as tie
 
@@ -11,7 +11,7 @@ add-run : tie.Need-add-run
 add-run c = search needs
 
 returns : tie.Need-returns
-unfolding stateOf isRunning isDone
+unfolding stateOf runPhase isRunning isDone
 returns c =
     let st = c .before .before .before in
     rw (le-leb (st .args .found .number) 64 (st .pre .1), add-one) refl

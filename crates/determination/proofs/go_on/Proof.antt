@@ -1,4 +1,4 @@
--- `determination::go_on` meets its contract: the new record stands for what the rules give. Assumes nothing.
+-- `determination::go_on` meets its contract: the new record stands for what the rules give.
 use native.Mathlib.Omega.{arith}
 use borrow.Author.Needs.{needs}
 use mir.Syntax.{w8, w64}

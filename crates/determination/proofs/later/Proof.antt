@@ -1,4 +1,4 @@
--- `determination::later` meets its contract. Assumes nothing.
+-- `determination::later` meets its contract.
 use mathlib.Core.Path.{sym, _∙_}
 use Prim.Native.Nat.{_-_}
 use native.Mathlib.Omega.{arith}

@@ -1,4 +1,4 @@
--- `determination::next_round` meets its contract. Assumes nothing.
+-- `determination::next_round` meets its contract.
 use mathlib.Core.Path.{_≡_}
 use Prim.Native.Nat.{_-_, suc}
 use native.Mathlib.Omega.{arith}

@@ -1,4 +1,4 @@
--- `determination::running` meets its contract. Assumes nothing.
+-- `determination::running` meets its contract.
 use mathlib.Core.Path.{_∙_}
 use borrow.Author.Needs.{needs}
 use Rattle.determination.proofs.Records.{test-phase, test-running}

@@ -1,4 +1,4 @@
--- `determination::sound` meets its contract. Assumes nothing.
+-- `determination::sound` meets its contract.
 use mathlib.Core.Bool.{true}
 use mathlib.Core.Path.{_≡_, sym, _∙_}
 use native.Mathlib.Omega.{arith}

@@ -1,4 +1,4 @@
--- `determination::start` meets its contract. Assumes nothing.
+-- `determination::start` meets its contract.
 use mathlib.Core.List.{[]}
 use mathlib.Core.Path.{_≡_, refl, ap}
 use Prim.Native.Nat.{ℕ}

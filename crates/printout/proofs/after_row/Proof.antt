@@ -2,7 +2,7 @@
 use mathlib.Core.Path.{refl}
 use native.Mathlib.Numerals.{add-one}
 use borrow.Author.Tests.{lt-ltb, le-ltb}
-use Rattle.printout.specs.Play.{afterRow}
+use Rattle.printout.specs.Progress.{afterRow}
 use borrow.Author.Needs.{needs}
 use Rattle.printout.proofs.after_row.Statement.{statement}
 use Rattle.printout.proofs.after_row.Tie as tie

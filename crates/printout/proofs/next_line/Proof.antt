@@ -29,17 +29,17 @@ with-line-requires c κs = search needs
 returns : tie.Need-returns
 returns c =
     let b = c .before .before .stage .given in
-    question-next _ (c .before .before .before .before .before .before .args .play) (b .0 .0) (b .1) (c .next-question .ensures)
+    question-next _ (c .before .before .before .before .before .before .args .progress) (b .0 .0) (b .1) (c .next-question .ensures)
 
 returns-2 : tie.Need-returns-2
 returns-2 c =
     let b = c .before .before .stage2 .given in
-    row-next _ (c .before .before .before .before .before .before .args .play) (b .0 .0) (b .1) (c .next-row .ensures)
+    row-next _ (c .before .before .before .before .before .before .args .progress) (b .0 .0) (b .1) (c .next-row .ensures)
 
 returns-3 : tie.Need-returns-3
 returns-3 c =
     let e = c .before .empty-line .ensures in
-    over-next _ (c .before .before .before .before .before .before .args .play) (c .before .before .enum-told .given .1)
+    over-next _ (c .before .before .before .before .before .before .args .progress) (c .before .before .enum-told .given .1)
     (made _ _ _ _ _ _ (c .with-line .ensures) (e .0, omega (arith, e .1)))
 
 pub next-line-spec : {M : Type 1} → statement M

@@ -1,4 +1,4 @@
--- `printout::put_lines` meets its contract: after k lines their text stands at the front, each at most 32 bytes long. Assumes nothing.
+-- `printout::put_lines` meets its contract: after k lines their text stands at the front, each at most `lineRoom` bytes long.
 use mathlib.Core.Path.{_≡_, refl, sym, ap, _∙_}
 use mathlib.Core.List.{List, _++_}
 use Prim.Native.Nat.{ℕ, _+_, _*_, _-_, _≤_}
@@ -7,18 +7,20 @@ use native.Mathlib.Omega.{arith}
 use borrow.Author.Needs.{needs}
 use lib.ListN.{length, take}
 use lib.Seq.{length-take-le}
+use Rattle.lines.specs.Text.{lineRoom}
 use Rattle.printout.specs.Printout.{printoutOf}
-use Rattle.printout.specs.Play.{standing, begunOf}
+use Rattle.printout.specs.Written.{mostLines, mostText}
+use Rattle.printout.specs.Progress.{progressOf, begunOf}
 use Rattle.printout.proofs.Texts.{leftAfter, textAfter, left-more, text-more, printed-all}
 use Rattle.printout.proofs.put_lines.Statement.{statement}
 use Rattle.printout.proofs.put_lines.Tie as tie
 
 abbrev Inv-loop : tie.InvT-loop
-Inv-loop card out₀ play₀ at₀ k₀ out play at k =
-    (k ≤ 658) × (at ≤ 32 * k) × (length out ≡ 21056) × (standing play ≡ leftAfter k (begunOf card)) × (take at out ≡ textAfter k (begunOf card))
+Inv-loop card out₀ progress₀ at₀ k₀ out progress at k =
+    (k ≤ mostLines) × (at ≤ lineRoom * k) × (length out ≡ mostText) × (progressOf progress ≡ leftAfter k (begunOf card)) × (take at out ≡ textAfter k (begunOf card))
 
 abbrev μ-loop : tie.MeasureT-loop
-μ-loop card out₀ play₀ at₀ k₀ out play at k = 658 - k
+μ-loop card out₀ progress₀ at₀ k₀ out progress at k = mostLines - k
 
 begin-requires : tie.Need-begin-requires Inv-loop μ-loop
 begin-requires c κs = search needs
@@ -53,9 +55,9 @@ loop-again c =
       omega arith,
       omega (arith, p .ensures .1, l .inv .1),
       p .kept .1 .0 ∙ l .inv .2,
-      rw (add-one (l .k)) (n .ensures .left ∙ left-more (l .k) t (standing (l .play)) (l .inv .3)),
+      rw (add-one (l .k)) (n .ensures .left ∙ left-more (l .k) t (progressOf (l .progress)) (l .inv .3)),
       rw (add-one (l .k))
-          (p .ensures .0 ∙ ap (λ (x : List ℕ). take (l .at) (l .out) ++ x) (n .ensures .text) ∙ text-more (l .k) t (standing (l .play)) (take (l .at) (l .out)) (l .inv .3) (l .inv .4)),
+          (p .ensures .0 ∙ ap (λ (x : List ℕ). take (l .at) (l .out) ++ x) (n .ensures .text) ∙ text-more (l .k) t (progressOf (l .progress)) (take (l .at) (l .out)) (l .inv .3) (l .inv .4)),
     )
 
 same-length : tie.Need-same-length Inv-loop μ-loop
@@ -64,7 +66,7 @@ same-length c = c .before .loop .inv .2 ∙ sym (c .before .before .before .befo
 returns : tie.Need-returns Inv-loop μ-loop
 returns c =
     let l = c .before .loop in
-    let k : l .k ≡ 658 = omega (arith, l .inv .0, c .loop-test .left) in
+    let k : l .k ≡ mostLines = omega (arith, l .inv .0, c .loop-test .left) in
     let card = c .before .before .before .before .before .args .card .now in
     let e : take (l .at) (l .out) ≡ printoutOf card = l .inv .4 ∙ ap (λ (x : ℕ). textAfter x (begunOf card)) k ∙ printed-all card in
     (e, sym (length-take-le (l .at) (l .out) (omega (arith, l .inv .1, l .inv .2))) ∙ ap length e, omega (arith, l .inv .1))

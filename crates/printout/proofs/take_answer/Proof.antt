@@ -41,7 +41,7 @@ returns c =
     let a = c .before .before .before .before .before .before in
     let st = a .before in
     let e = toZ-ofZ w64 (st .args .z) (st .fits .z) in
-    let h = rw e at (a .answer .ensures .0) in
+    let h = rw e at (a .answer .ensures .by-rules) in
     let b = c .before .before .before .step .given in
     let l = rw e at (c .before .question-line .ensures) in
     asks _ _ (st .args .run) _ (st .args .a .0) (st .args .z) _ (b .0 .0) (b .1) h (made _ _ _ _ _ _ (c .with-line .ensures) l)
@@ -51,7 +51,7 @@ returns-2 c =
     let a = c .before .before .before .before .before in
     let st = a .before in
     let e = toZ-ofZ w64 (st .args .z) (st .fits .z) in
-    let h = rw e at (a .answer .ensures .0) in
+    let h = rw e at (a .answer .ensures .by-rules) in
     let l = rw e at (c .before .question-line2 .ensures) in
     ends _ _ (st .args .run) _ (st .args .a .0) (st .args .z) _ (c .before .before .enum-told .given .1) h (made _ _ _ _ _ _ (c .with-line2 .ensures) l)
 
@@ -59,7 +59,7 @@ returns-3 : tie.Need-returns-3
 returns-3 c =
     let a = c .before .before .before .before .before .before in
     let st = a .before in
-    let h = rw (toZ-ofZ w64 (st .args .z) (st .fits .z)) at (a .answer .ensures .0) in
+    let h = rw (toZ-ofZ w64 (st .args .z) (st .fits .z)) at (a .answer .ensures .by-rules) in
     let b = c .before .before .before .step2 .given in
     refuses _ _ (st .args .run) _ (st .args .a .0) (st .args .z) _ (b .0 .0) (b .1) h (made _ _ _ _ _ _ (c .with-line3 .ensures) (c .before .refusal-line .ensures))
 

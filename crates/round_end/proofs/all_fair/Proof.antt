@@ -1,4 +1,4 @@
--- `round_end::all_fair` meets its contract: the test is that of the rows left. Assumes nothing.
+-- `round_end::all_fair` meets its contract: the test is that of the rows left.
 use mathlib.Core.Path.{_≡_, refl, sym, _∙_}
 use mathlib.Core.Bool.{_&&_}
 use Prim.Native.Nat.{_+_, _≤_, _-_}

@@ -1,4 +1,4 @@
--- `round_end::by_moments` meets its contract. Assumes nothing.
+-- `round_end::by_moments` meets its contract.
 use mathlib.Core.Path.{_≡_, refl}
 use mathlib.Core.Option.{some}
 use Prim.Native.Nat.{_-_}

@@ -1,4 +1,4 @@
--- `round_end::count_with` meets its contract: the counts of a fair row are small. Assumes nothing.
+-- `round_end::count_with` meets its contract: the counts of a fair row are small.
 use mathlib.Core.Path.{_≡_, refl}
 use native.Mathlib.Omega.{arith}
 use lib.IntN.{pos, _+ℤ_, _-ℤ_}

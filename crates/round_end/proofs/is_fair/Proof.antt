@@ -1,4 +1,4 @@
--- `round_end::is_fair` meets its contract: where g is at most d and e is within g, nothing on the way wraps. Assumes nothing.
+-- `round_end::is_fair` meets its contract: where g is at most d and e is within g, nothing on the way wraps.
 use mathlib.Core.Path.{_≡_, sym, _∙_}
 use mathlib.Core.Bool.{true, false}
 use native.Mathlib.Omega.{arith}

@@ -1,4 +1,4 @@
--- `round_end::judge` meets its contract: three lists of rows are written one after the other, at most 64 rows in all. Assumes nothing.
+-- `round_end::judge` meets its contract: three lists of rows are written one after the other, at most 64 rows in all.
 use mathlib.Core.Path.{_≡_, refl, sym, ap, _∙_}
 use mathlib.Core.Bool.{true, false}
 use mathlib.Core.List.{_++_}
@@ -8,7 +8,8 @@ use lib.ListN.{length-append}
 use lib.Seq.{length-sets}
 use Rattle.rounds.specs.Rows.{rowsWith}
 use Rattle.rounds.specs.Moments.{allFair}
-use Rattle.round_end.specs.Steps.{signRows, judged}
+use Rattle.rounds.specs.Moments.{judged}
+use Rattle.round_end.specs.Steps.{signRows}
 use Rattle.round_end.specs.declared.Next.the-variants.{Rows}
 use Rattle.round_end.proofs.StepLaws.{extended-is, Ready, ready, put-all-patterns, put-all-counts}
 use borrow.Author.Needs.{needs}

@@ -1,4 +1,4 @@
--- `round_end::moment` meets its contract. Assumes nothing.
+-- `round_end::moment` meets its contract.
 use mathlib.Core.Logic.{inl, inr, ⊎-elim}
 use Rattle.round_end.proofs.MomentLaws.{StandsFor, call-found, call-refused}
 use borrow.Author.Needs.{needs}

@@ -1,4 +1,4 @@
--- `round_end::proper_counts` meets its contract: the counts left add up to at most what is left of 64. Assumes nothing.
+-- `round_end::proper_counts` meets its contract: the counts left add up to at most what is left of 64.
 use Prim.Native.Nat.{_≤_, _-_}
 use mathlib.Core.Path.{_≡_, refl, sym, _∙_}
 use native.Mathlib.Omega.{arith}

@@ -1,4 +1,4 @@
--- `round_end::proper_rows` meets its contract. Assumes nothing.
+-- `round_end::proper_rows` meets its contract.
 use mathlib.Core.Path.{_≡_, refl, sym, _∙_}
 use mathlib.Core.Bool.{true, false}
 use Prim.Native.Nat.{_^_}

@@ -1,4 +1,4 @@
--- `round_end::put_row` meets its contract. Assumes nothing.
+-- `round_end::put_row` meets its contract.
 use mathlib.Core.Path.{refl, sym, ap}
 use native.Mathlib.Nat.{add-zero}
 use native.Mathlib.Omega.{arith}

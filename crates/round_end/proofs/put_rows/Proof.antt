@@ -1,4 +1,4 @@
--- `round_end::put_rows` meets its contract: what is still to be written completes it. Assumes nothing.
+-- `round_end::put_rows` meets its contract: what is still to be written completes it.
 use mathlib.Core.Path.{_≡_, refl, sym, _∙_}
 use mathlib.Core.Bool.{true}
 use mathlib.Core.List.{_++_}

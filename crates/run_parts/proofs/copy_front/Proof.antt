@@ -1,4 +1,4 @@
--- `run_parts::copy_front` meets its contract: what was passed is copied, the rest as it was. Assumes nothing.
+-- `run_parts::copy_front` meets its contract: what was passed is copied, the rest as it was.
 use mathlib.Core.List.{List, _++_, append-assoc}
 use mathlib.Core.Path.{_≡_, refl, _∙_}
 use Prim.Native.Nat.{_-_, ℕ, suc, _+_, _≤_, _<_}

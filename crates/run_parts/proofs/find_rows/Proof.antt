@@ -1,21 +1,15 @@
--- `run_parts::find_rows` meets its contract: the parts are made, and passed on. Assumes nothing.
-use mathlib.Core.List.{List, [], _∷_, _++_}
-use mathlib.Core.Path.{_≡_, sym, _∙_}
-use Prim.Native.Nat.{ℕ, _+_, _<_}
-use native.Mathlib.Numerals.{add-one}
+-- `run_parts::find_rows` meets its contract: the parts are made, and passed on.
+use mathlib.Core.Path.{sym, _∙_}
+use Prim.Native.Nat.{_+_}
 use native.Mathlib.Omega.{arith}
 use borrow.Author.Needs.{needs}
-use lib.IntN.{ℤ}
-use lib.ListN.{length, take, set, length-set}
-use lib.Seq.{length-take-le, take-suc-set}
+use lib.ListN.{length-set}
+use lib.Seq.{length-take-le}
 use mir.Syntax.{w64}
 use mir.ValLaws.{toZ-ofZ}
+use Rattle.runs.proofs.Held.{stored}
 use Rattle.run_parts.proofs.find_rows.Statement.{statement}
 use Rattle.run_parts.proofs.find_rows.Tie as tie
-
--- the answers with one more
-stored : (l : List ℤ) (k : ℕ) (z : ℤ) → k < length l → take (k + 1) (set l k z) ≡ take k l ++ (z ∷ [])
-stored l k z h = rw (add-one k) (take-suc-set l k z h)
 
 widened-requires : tie.Need-widened-requires
 widened-requires c κs = search needs

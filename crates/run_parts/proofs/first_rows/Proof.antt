@@ -1,4 +1,4 @@
--- `run_parts::first_rows` meets its contract: the row stands at the front of two arrays. Assumes nothing.
+-- `run_parts::first_rows` meets its contract: the row stands at the front of two arrays.
 use mathlib.Core.List.{List, [], _∷_}
 use mathlib.Core.Path.{_≡_, refl}
 use Prim.Native.Nat.{ℕ, zero, suc}

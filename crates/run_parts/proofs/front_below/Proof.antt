@@ -1,4 +1,4 @@
--- `run_parts::front_below` meets its contract. Assumes nothing.
+-- `run_parts::front_below` meets its contract.
 use mathlib.Core.Path.{sym}
 use lib.Seq.{length-take-le}
 use borrow.Author.Needs.{needs}

@@ -1,4 +1,4 @@
--- `run_parts::in_limits` meets its contract: each return rewrites with the tests that led there. Assumes nothing.
+-- `run_parts::in_limits` meets its contract: each return rewrites with the tests that led there.
 use mathlib.Core.Path.{refl}
 use Prim.Native.Nat.{_*_}
 use borrow.Author.Needs.{needs}

@@ -1,4 +1,4 @@
--- `run_parts::product_at` meets its contract. Assumes nothing.
+-- `run_parts::product_at` meets its contract.
 use mathlib.Core.Path.{_≡_, refl}
 use Prim.Native.Nat.{ℕ, _-_, _^_, _≤_, _<_}
 use native.Mathlib.Omega.{arith}
@@ -27,7 +27,7 @@ power-requires c κs = search needs
 mul-twice : tie.Need-mul-twice
 mul-twice c =
     let st = c .before .before in
-    let w : 3 ^ st .args .i ≤ 2187 = three-mono (st .args .i) 7 (st .pre .0) in
+    let w : 3 ^ st .args .i ≤ 2187 = three-mono (st .args .i) 7 (omega (arith, st .pre .0)) in
     omega arith
 
 mul-t8 : tie.Need-mul-t8
@@ -39,7 +39,7 @@ shared-slice-read-t10 c = search needs
 add-t11 : tie.Need-add-t11
 add-t11 c =
     let st = c .before .before .before .before in
-    let w : 3 ^ st .args .i ≤ 2187 = three-mono (st .args .i) 7 (st .pre .0) in
+    let w : 3 ^ st .args .i ≤ 2187 = three-mono (st .args .i) 7 (omega (arith, st .pre .0)) in
     let b = bound st (st .args .k) (c .before .if1 .taken) in
     omega arith
 
@@ -58,7 +58,7 @@ shared-slice-read-t15 c = search needs
 add-t16 : tie.Need-add-t16
 add-t16 c =
     let st = c .before .before .before .before in
-    let w : 3 ^ st .args .i ≤ 2187 = three-mono (st .args .i) 7 (st .pre .0) in
+    let w : 3 ^ st .args .i ≤ 2187 = three-mono (st .args .i) 7 (omega (arith, st .pre .0)) in
     let b = bound st (st .args .k - st .args .n) (omega arith) in
     omega arith
 

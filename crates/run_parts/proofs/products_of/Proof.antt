@@ -1,4 +1,4 @@
--- `run_parts::products_of` meets its contract. Assumes nothing.
+-- `run_parts::products_of` meets its contract.
 use mathlib.Core.Path.{_≡_, sym, _∙_}
 use Prim.Native.Nat.{_^_, _≤_}
 use native.Mathlib.Omega.{arith}

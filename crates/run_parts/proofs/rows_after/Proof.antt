@@ -1,4 +1,4 @@
--- `run_parts::rows_after` meets its contract: the arrays are made, and lent to the call. Assumes nothing.
+-- `run_parts::rows_after` meets its contract: the arrays are made, and lent to the call.
 use borrow.Author.Needs.{needs}
 use Rattle.run_parts.proofs.rows_after.Statement.{statement}
 use Rattle.run_parts.proofs.rows_after.Tie as tie

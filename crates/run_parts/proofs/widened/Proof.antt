@@ -1,4 +1,4 @@
--- `run_parts::widened` meets its contract: the answers passed are copied. Assumes nothing.
+-- `run_parts::widened` meets its contract: the answers passed are copied.
 use mathlib.Core.Path.{_≡_, refl}
 use mathlib.Core.List.{List}
 use Prim.Native.Nat.{ℕ, _-_, _+_, _≤_, _<_}

@@ -1,23 +1,20 @@
--- `tarski::answered` meets its contract. Assumes nothing.
-use mathlib.Core.Path.{sym, _∙_}
+-- `tarski::answered` meets its contract.
 use mir.Syntax.{w64}
 use mir.ValLaws.{toZ-ofZ}
 use borrow.Author.Needs.{needs}
-use Rattle.tarski.proofs.Telling.{turned, told-late}
 use Rattle.tarski.proofs.answered.Statement.{statement}
 use Rattle.tarski.proofs.answered.Tie as tie
 
 answer-requires : tie.Need-answer-requires
 answer-requires c κs = search needs
 
-tell-requires : tie.Need-tell-requires
-tell-requires c κs = search needs
+flat-step-requires : tie.Need-flat-step-requires
+flat-step-requires c κs = search needs
 
 returns : tie.Need-returns
 returns c =
     let st = c .before .before .before in
-    let next = rw (toZ-ofZ w64 (st .args .a) (st .fits .a)) at (c .before .before .answer .ensures .0) in
-    (turned _ _ _ _ (c .tell .ensures) next, λ e. c .before .before .answer .ensures .1 (told-late _ (sym (c .tell .ensures) ∙ e)))
+    (_, rw (toZ-ofZ w64 (st .args .a) (st .fits .a)) at (c .before .before .answer .ensures), c .flat-step .ensures)
 
 pub answered-spec : {M : Type 1} → statement M
-answered-spec = tie.close (tie.spec answer-requires tell-requires returns)
+answered-spec = tie.close (tie.spec answer-requires flat-step-requires returns)

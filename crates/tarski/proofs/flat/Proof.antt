@@ -1,4 +1,4 @@
--- `tarski::flat` meets its contract. Assumes nothing.
+-- `tarski::flat` meets its contract.
 use mathlib.Core.Path.{sym, ap, _∙_}
 use mir.Syntax.{w64}
 use mir.ValLaws.{toZ-ofZ}

@@ -1,4 +1,4 @@
--- `tarski::number_on` meets its contract. Assumes nothing.
+-- `tarski::number_on` meets its contract.
 use mathlib.Core.Path.{ap, _∙_}
 use Rattle.tarski.specs.Flat.{numberOf}
 use borrow.Author.Needs.{needs}

@@ -1,4 +1,4 @@
--- `tarski::row_at` meets its contract. Assumes nothing.
+-- `tarski::row_at` meets its contract.
 use mathlib.Core.Path.{sym, ap, _∙_}
 use Rattle.determination.specs.Record.{fetchedOf}
 use Rattle.determination.specs.declared.Fetched.{Fetched}

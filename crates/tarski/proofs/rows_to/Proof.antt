@@ -1,4 +1,4 @@
--- `tarski::rows_to` meets its contract. Assumes nothing.
+-- `tarski::rows_to` meets its contract.
 use mathlib.Core.Path.{_≡_, sym, ap, _∙_}
 use mathlib.Core.List.{List}
 use Prim.Native.Nat.{ℕ}

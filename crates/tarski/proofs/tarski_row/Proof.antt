@@ -1,6 +1,6 @@
 -- `tarski::tarski_row` meets its contract: a walk of its MIR, by hand. The `&` is looked into, the record is copied out of it, and it is shut again; `row_at`
 -- is called on the copy. All that the proof knows of `row_at` is that it meets its contract. A `&` is Copy: what it owns is had twice, one copy is kept
--- whole for the exit, and the other is taken apart. Assumes nothing.
+-- whole for the exit, and the other is taken apart.
 use mathlib.Core.Path.{_≡_, refl}
 use mathlib.Core.List.{List, [], _∷_}
 use Prim.Native.Nat.{ℕ}

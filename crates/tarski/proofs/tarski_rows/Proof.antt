@@ -1,7 +1,7 @@
 -- `tarski::tarski_rows` meets its contract: a walk of its MIR, by hand. The `&Run` is looked into, the record is copied out of it, and it is shut
 -- again; `rows_to` is called on the copy and the two slices. It is called at the borrows' own lifetimes, shares and names: they are given up for good,
 -- and what `rows_to` says of the last lists under those names is what is said at exit. All that the proof knows of `rows_to` is that it meets its
--- contract. Assumes nothing.
+-- contract.
 use mathlib.Core.Path.{_≡_, refl}
 use mathlib.Core.List.{List, [], _∷_}
 use Prim.Native.Nat.{ℕ}

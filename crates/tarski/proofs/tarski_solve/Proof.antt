@@ -1,4 +1,4 @@
--- `tarski::tarski_solve` meets its contract. Assumes nothing.
+-- `tarski::tarski_solve` meets its contract.
 use mathlib.Core.Path.{sym, ap, _∙_}
 use Rattle.tarski.specs.Flat.{refusalOf}
 use borrow.Author.Needs.{needs}
