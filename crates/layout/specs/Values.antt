@@ -13,7 +13,7 @@ use lib.Dec.{ltb}
 use lib.IntN.{ℤ, pos, negsuc, _*ℤ_}
 use lib.ListN.{getD}
 use Rattle.integers.specs.Sums.{sumTo}
-use Rattle.signs.specs.Signs.{power}
+use Rattle.integers.specs.Powers.{power}
 use Rattle.layout.specs.Limits.{most-degree}
 use Rattle.layout.specs.Format.{offset, degree, coefficient, point-of}
 

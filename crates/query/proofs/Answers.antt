@@ -17,7 +17,8 @@ use Rattle.integers.specs.Sign.{sgnℤ}
 use Rattle.integers.specs.Sums.{sumTo}
 use Rattle.integers.proofs.Sums.{sumTo-abs, sumTo-ext}
 use Rattle.integers.proofs.Tests.{eq-cases}
-use Rattle.signs.specs.Signs.{power, query}
+use Rattle.integers.specs.Powers.{power}
+use Rattle.signs.specs.Signs.{query}
 use Rattle.card.specs.Numbers.{_when_, _▸_}
 use Rattle.card.specs.Card.{refusal}
 use Rattle.card.specs.Answers.{unless}

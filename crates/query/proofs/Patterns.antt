@@ -12,7 +12,8 @@ use Rattle.integers.specs.Sums.{sumTo}
 use Rattle.integers.proofs.Sign.{sgn-*}
 use Rattle.integers.proofs.Sums.{sumTo-ext}
 use Rattle.signs.specs.Lists.{Below, upTo}
-use Rattle.signs.specs.Signs.{power, sign, query}
+use Rattle.integers.specs.Powers.{power}
+use Rattle.signs.specs.Signs.{sign, query}
 use Rattle.signs.proofs.Digits.{top, low}
 use Rattle.layout.specs.Format.{polynomials, points}
 use Rattle.layout.specs.Values.{value-of, sign-digit}

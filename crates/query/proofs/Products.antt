@@ -11,7 +11,7 @@ use native.Mathlib.Nat.{pow-suc, one-le-pow, mod-lt, mod-eq-of-lt, mul-assoc, mu
 use lib.Arith.{digits-div, digits-mod, mod-mul}
 use lib.IntN.{ℤ, pos, _*ℤ_}
 use Rattle.integers.proofs.Tests.{eq-cases}
-use Rattle.signs.specs.Signs.{power}
+use Rattle.integers.specs.Powers.{power}
 use Rattle.signs.proofs.Digits.{top, low, digits}
 use Rattle.layout.specs.Values.{value-of, sign-digit}
 use Rattle.layout.proofs.Digit.{digit-small}

@@ -17,7 +17,7 @@ use lib.IntN.{ℤ, pos, _*ℤ_}
 use Rattle.integers.specs.Sign.{sgnℤ}
 use Rattle.integers.specs.Sums.{sumTo}
 use Rattle.signs.specs.Lists.{upTo}
-use Rattle.signs.specs.Signs.{power}
+use Rattle.integers.specs.Powers.{power}
 use Rattle.layout.specs.Format.{polynomials, points}
 use Rattle.layout.specs.Values.{value-of, sign-digit}
 use Rattle.card.specs.Numbers.{_when_, _▸_}

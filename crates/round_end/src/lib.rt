@@ -15,9 +15,9 @@ ghost use Rattle.rounds.specs.RoundEnd.{properRows};
 ghost use Rattle.round_end.specs.Outcome.{Left, Ended};
 ghost use Rattle.round_end.specs.Steps.{withSign, signRows, properCounts, Solved as SolvedBy, judged};
 use integers::within;
+use signs::below;
 use signs::power;
-use solutions::below;
-use solutions::rising;
+use signs::rising;
 use solver::Solved;
 use solver::solve;
 

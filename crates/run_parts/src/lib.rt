@@ -17,8 +17,8 @@ use adapted::adapted;
 use round_end::Next;
 use round_end::next_rows;
 use signs::Product;
+use signs::below;
 use signs::power;
-use solutions::below;
 
 // The most polynomials, points and rows (document 01).
 const MOST_POLYNOMIALS: usize = 8;
