@@ -10,7 +10,8 @@ use native.Mathlib.Nat.{pow-suc, one-le-pow, mod-lt, mod-eq-of-lt, mul-assoc, mu
 use lib.Arith.{digits-div, digits-mod, mod-mul}
 use lib.IntN.{ℤ, pos, _*ℤ_}
 use Rattle.integers.proofs.Tests.{eq-cases}
-use Rattle.signs.specs.Signs.{power, sign-digit}
+use Rattle.integers.specs.Powers.{power}
+use Rattle.signs.specs.Signs.{sign-digit}
 use Rattle.signs.proofs.Digits.{top, low, digits}
 use Rattle.signs.proofs.SignDigits.{digit-small}
 use Rattle.contents.specs.Contents.{productTo, patternTo}

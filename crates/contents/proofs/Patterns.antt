@@ -13,7 +13,8 @@ use Rattle.integers.proofs.Sign.{sgn-*}
 use Rattle.integers.proofs.Abs.{abs-sum}
 use Rattle.integers.proofs.Sums.{sum-map-ext}
 use Rattle.signs.specs.Lists.{Below}
-use Rattle.signs.specs.Signs.{power, sign, query, sign-digit}
+use Rattle.integers.specs.Powers.{power}
+use Rattle.signs.specs.Signs.{sign, query, sign-digit}
 use Rattle.signs.proofs.Digits.{top, low}
 use Rattle.signs.proofs.SignDigits.{digit-sign, digit-small}
 use Rattle.contents.specs.Contents.{Contents, productTo, patternTo, valuesAt, productValue, queryIn, patternAt, patternsIn}

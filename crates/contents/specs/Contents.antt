@@ -16,7 +16,8 @@ use Prim.Native.Nat.{ℕ, zero, suc, _+_, _*_, _/_, _%_, _^_}
 use lib.IntN.{ℤ, pos, _*ℤ_}
 use Rattle.integers.specs.Sign.{sgnℤ}
 use Rattle.integers.specs.Sums.{sumℤ}
-use Rattle.signs.specs.Signs.{power, sign-digit}
+use Rattle.integers.specs.Powers.{power}
+use Rattle.signs.specs.Signs.{sign-digit}
 
 pub record Contents (X : Type 0) : Type 0 where
   pub s : ℕ  -- how many polynomials

@@ -11,7 +11,7 @@ use lib.Seq.{getD-set-same, getD-set-other, ext-getD}
 use Rattle.integers.specs.Sums.{sumTo, Within}
 use Rattle.integers.proofs.Sums.{sumTo-ext}
 use Rattle.integers.proofs.Tests.{eq-cases}
-use Rattle.signs.specs.Signs.{power}
+use Rattle.integers.specs.Powers.{power}
 use Rattle.refusals.specs.Limits.{mostCoefficient}
 use Rattle.layout.specs.Format.{degree, coefficient}
 use Rattle.layout.specs.Body.{Small}

@@ -10,7 +10,7 @@ use Prim.Native.Nat.{ℕ, _+_}
 use lib.Dec.{ltb}
 use lib.IntN.{ℤ, pos, _*ℤ_}
 use Rattle.integers.specs.Sums.{sumTo}
-use Rattle.signs.specs.Signs.{power}
+use Rattle.integers.specs.Powers.{power}
 use Rattle.layout.specs.Format.{offset, degree, coefficient, point-of}
 
 abbrev pub up-to : List ℕ → ℕ → ℕ → ℕ → ℤ

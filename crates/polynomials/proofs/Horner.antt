@@ -11,7 +11,7 @@ use Rattle.integers.specs.Sums.{sumTo}
 use Rattle.integers.proofs.Abs.{abs-sum, abs-*-le}
 use Rattle.integers.proofs.Ring.{ringℤ}
 use Rattle.integers.proofs.Sums.{sumTo-ext}
-use Rattle.signs.specs.Signs.{power}
+use Rattle.integers.specs.Powers.{power}
 
 unfoldable pub from : (ℕ → ℤ) → ℤ → ℕ → ℕ → ℤ
 from a x i m = sumTo (λ k. a (i + k) *ℤ power x k) m

@@ -7,7 +7,7 @@ use lib.IntN.{ℤ, pos, _*ℤ_}
 use lib.ListN.{getD}
 use Rattle.refusals.specs.Limits.{mostDegree}
 use Rattle.integers.specs.Sums.{sumTo}
-use Rattle.signs.specs.Signs.{power}
+use Rattle.integers.specs.Powers.{power}
 
 unfoldable pub evaluate : List ℤ → ℤ → ℤ
 evaluate p x = sumTo (λ i. getD p i (pos 0) *ℤ power x i) (mostDegree + 1)

@@ -10,7 +10,8 @@ use lib.ListN.{set}
 use Rattle.integers.specs.Sums.{sumℤ, sumTo}
 use Rattle.signs.specs.Lists.{times, upTo, keep, shift}
 use Rattle.signs.specs.Adapted.{adapted, lows, signsOf}
-use Rattle.signs.specs.Signs.{power, sign-digit}
+use Rattle.integers.specs.Powers.{power}
+use Rattle.signs.specs.Signs.{sign-digit}
 use Rattle.contents.specs.Contents.{productTo, queryIn, patternTo, patternsIn}
 use Rattle.layout.specs.Format.{two's, offset, word}
 use Rattle.layout.specs.Values.{value}

@@ -21,7 +21,8 @@ use Rattle.integers.proofs.Ring.{*ℤ-assoc, *ℤ-left-comm, *ℤ-1}
 use Rattle.integers.proofs.Parts.{int, sum, dif}
 use Rattle.integers.proofs.Sums.{sumTo-ext}
 use Rattle.signs.specs.Lists.{total}
-use Rattle.signs.specs.Signs.{signOf, power, sign}
+use Rattle.integers.specs.Powers.{power}
+use Rattle.signs.specs.Signs.{signOf, sign}
 use Rattle.signs.proofs.Digits.{top, low}
 use Rattle.query.specs.declared.Opened.{Opened}
 use Rattle.query.specs.Opened.{bitAt, digitBy, columnTo, summed}

@@ -10,7 +10,8 @@ use lib.IntN.{pos, negsuc}
 use lib.ListN.{take}
 use Rattle.integers.specs.Sums.{sumℤ, sumTo}
 use Rattle.signs.specs.Lists.{upTo}
-use Rattle.signs.specs.Signs.{power, sign-digit}
+use Rattle.integers.specs.Powers.{power}
+use Rattle.signs.specs.Signs.{sign-digit}
 use Rattle.contents.specs.Contents.{productTo, queryIn, patternTo, patternsIn}
 use Rattle.layout.specs.Format.{two's, offset, word}
 use Rattle.layout.specs.Values.{value}

@@ -1,14 +1,14 @@
--- `solutions::below` meets its contract: the test is that of the numbers passed and of those left. Assumes nothing.
+-- `signs::below` meets its contract: the test is that of the numbers passed and of those left.
 use mathlib.Core.Path.{_≡_, refl}
 use mathlib.Core.Bool.{_&&_}
 use Prim.Native.Nat.{_-_, _≤_}
 use native.Mathlib.Omega.{arith}
 use borrow.Author.Needs.{needs}
 use lib.ListN.{length, drop}
 use Rattle.signs.specs.Lists.{isBelow}
-use Rattle.solutions.proofs.Posing.{below-next, below-end}
-use Rattle.solutions.proofs.below.Statement.{statement}
-use Rattle.solutions.proofs.below.Tie as tie
+use Rattle.signs.proofs.Orders.{below-next, below-end}
+use Rattle.signs.proofs.below.Statement.{statement}
+use Rattle.signs.proofs.below.Tie as tie
 
 abbrev Inv-loop : tie.InvT-loop
 Inv-loop l bound all₀ k₀ all k = (k ≤ length l) × (isBelow bound l ≡ (all && isBelow bound (drop k l)))

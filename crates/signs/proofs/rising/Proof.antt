@@ -1,15 +1,15 @@
--- `solutions::rising` meets its contract. Assumes nothing.
+-- `signs::rising` meets its contract.
 use Prim.Native.Nat.{ℕ, _+_, _-_, _≤_, _<_}
 use native.Mathlib.Omega.{arith}
 use mathlib.Core.Path.{_≡_, refl}
 use borrow.Author.Needs.{needs}
 use lib.ListN.{length, drop}
-use Rattle.solutions.proofs.Posing.{rising-next, rising-not, rising-end}
-use Rattle.solutions.proofs.rising.Statement.{statement}
-use Rattle.solutions.proofs.rising.Tie as tie
-use Rattle.solutions.proofs.rising.Reads as reads
-use Rattle.solutions.proofs.rising.Lts as lts
+use Rattle.signs.proofs.Orders.{rising-next, rising-not, rising-end}
+use Rattle.signs.proofs.rising.Statement.{statement}
+use Rattle.signs.proofs.rising.Tie as tie
+use Rattle.signs.proofs.rising.Reads as reads
+use Rattle.signs.proofs.rising.Lts as lts
 use Rattle.signs.specs.Lists.{isRising}
 
 abbrev Inv-loop : tie.InvT-loop
 Inv-loop l k₀ k = (1 ≤ k) × (isRising l ≡ isRising (drop (k - 1) l))

@@ -1,7 +1,8 @@
--- `moments::wide` meets its contract: a number of 16 bits fits in 64. Assumes nothing.
-use Rattle.moments.proofs.Laws.{back, back-64, fits-wide}
-use Rattle.moments.proofs.wide.Statement.{statement}
-use Rattle.moments.proofs.wide.Tie as tie
+-- `integers::wide` meets its contract: a number of 16 bits fits in 64.
+use Rattle.integers.proofs.I16.{back, fits-wide}
+use Rattle.integers.proofs.I64.{back-64}
+use Rattle.integers.proofs.wide.Statement.{statement}
+use Rattle.integers.proofs.wide.Tie as tie
 
 cast-result : tie.Need-cast-result
 cast-result c = rw (back (c .args .x) (c .fits .x)) (fits-wide _ (c .fits .x))

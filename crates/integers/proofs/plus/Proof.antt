@@ -1,11 +1,11 @@
--- `moments::plus` meets its contract. Assumes nothing.
+-- `integers::plus` meets its contract.
 use lib.IntN.{ℤ, _+ℤ_}
 use native.Mathlib.Omega.{arith}
 use mathlib.Core.Path.{sym}
 use Rattle.integers.proofs.Abs.{abs-sum}
-use Rattle.moments.proofs.Laws.{back, fits-small}
-use Rattle.moments.proofs.plus.Statement.{statement}
-use Rattle.moments.proofs.plus.Tie as tie
+use Rattle.integers.proofs.I16.{back, fits-small}
+use Rattle.integers.proofs.plus.Statement.{statement}
+use Rattle.integers.proofs.plus.Tie as tie
 
 add-result : tie.Need-add-result
 add-result c =

@@ -1,8 +1,8 @@
--- `solutions::still_below` meets its contract. Assumes nothing.
+-- `signs::still_below` meets its contract.
 use mathlib.Core.Path.{refl}
 use borrow.Author.Tests.{lt-ltb, le-ltb}
-use Rattle.solutions.proofs.still_below.Statement.{statement}
-use Rattle.solutions.proofs.still_below.Tie as tie
+use Rattle.signs.proofs.still_below.Statement.{statement}
+use Rattle.signs.proofs.still_below.Tie as tie
 
 returns : tie.Need-returns
 returns c = let a = c .before .args in rw (le-ltb (a .x) (a .bound) (c .if1 .taken)) refl

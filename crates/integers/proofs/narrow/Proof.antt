@@ -1,8 +1,9 @@
--- `moments::narrow` meets its contract: a small number fits. Assumes nothing.
+-- `integers::narrow` meets its contract: a small number fits.
 use native.Mathlib.Omega.{arith}
-use Rattle.moments.proofs.Laws.{back, back-64, fits-small}
-use Rattle.moments.proofs.narrow.Statement.{statement}
-use Rattle.moments.proofs.narrow.Tie as tie
+use Rattle.integers.proofs.I16.{back, fits-small}
+use Rattle.integers.proofs.I64.{back-64}
+use Rattle.integers.proofs.narrow.Statement.{statement}
+use Rattle.integers.proofs.narrow.Tie as tie
 
 cast-result : tie.Need-cast-result
 cast-result c = rw (back-64 (c .args .x) (c .fits .x)) (fits-small _ (omega (arith, c .pre)))

@@ -1,18 +1,18 @@
--- `adapted::place` meets its contract: the elements passed are below the bound. Assumes nothing.
+-- `adapted::leading_count` meets its contract: the elements passed are below the bound.
 use Prim.Native.Nat.{ℕ, _≤_, _<_, _-_}
 use native.Mathlib.Omega.{arith}
 use borrow.Author.Needs.{needs}
 use borrow.Author.Count.{below-more}
 use lib.ListN.{length, getD}
 use Rattle.adapted.proofs.Merge.{leading-at}
-use Rattle.adapted.proofs.place.Statement.{statement}
-use Rattle.adapted.proofs.place.Tie as tie
+use Rattle.adapted.proofs.leading_count.Statement.{statement}
+use Rattle.adapted.proofs.leading_count.Tie as tie
 
 abbrev Inv-loop : tie.InvT-loop
-Inv-loop s bound k₀ k = (k ≤ length s) × ((j : ℕ) → j < k → getD s j 0 < bound)
+Inv-loop l bound k₀ k = (k ≤ length l) × ((j : ℕ) → j < k → getD l j 0 < bound)
 
 abbrev μ-loop : tie.MeasureT-loop
-μ-loop s bound k₀ k = length s - k
+μ-loop l bound k₀ k = length l - k
 
 loop-holds : tie.Need-loop-holds Inv-loop μ-loop
 loop-holds c = (omega arith, λ j h. absurd (omega arith))
@@ -38,8 +38,8 @@ loop-again c = (search needs, below-more _ _ (c .before .before .before .loop .i
 returns-2 : tie.Need-returns-2 Inv-loop μ-loop
 returns-2 c = leading-at _ _ _ (omega arith) (c .before .loop .inv .1) (λ h. absurd (omega arith))
 
-pub place-spec : {M : Type 1} → statement M
-place-spec =
+pub leading-count-spec : {M : Type 1} → statement M
+leading-count-spec =
     tie.close
     (tie.spec
     Inv-loop

@@ -1,10 +1,10 @@
--- `moments::minus` meets its contract. Assumes nothing.
+-- `integers::minus` meets its contract.
 use lib.IntN.{ℤ, _-ℤ_}
 use native.Mathlib.Omega.{arith}
 use Rattle.integers.proofs.Abs.{abs-dif}
-use Rattle.moments.proofs.Laws.{back, fits-small}
-use Rattle.moments.proofs.minus.Statement.{statement}
-use Rattle.moments.proofs.minus.Tie as tie
+use Rattle.integers.proofs.I16.{back, fits-small}
+use Rattle.integers.proofs.minus.Statement.{statement}
+use Rattle.integers.proofs.minus.Tie as tie
 
 sub-result : tie.Need-sub-result
 sub-result c =
