@@ -16,10 +16,10 @@ use Rattle.contents.specs.Contents.{productTo, queryIn, patternTo, patternsIn}
 use Rattle.layout.specs.Format.{two's, offset, word}
 use Rattle.layout.specs.Values.{value}
 use Rattle.card.specs.Card.{some, contents, header, polynomial, coefficients, bodies, last, refusal}
-use Rattle.rounds.specs.Rows.{patterns, rowIf, rowsOf, realized}
+use Rattle.rounds.specs.Rows.{restrict, patterns, rowIf, rowsOf, realized}
 use Rattle.rounds.specs.Rounds.{roundOf}
 use Rattle.lines.specs.Text.{decimalTo, decimal, signed, questionLine, rowLine, endLine, refusalLine}
-use Rattle.printout.specs.Printout.{lowered, roundsTo, questions, questionLines, rowLines, soundLines, linesOf, together, printoutOf}
+use Rattle.printout.specs.Printout.{roundsTo, questions, questionLines, rowLines, soundLines, linesOf, together, printoutOf}
 
 abbrev example : List ℕ
 example =
@@ -46,7 +46,7 @@ example-lines : linesOf example ≡
     (questionLine 0 (pos 3) ∷ questionLine 1 (pos 1) ∷ questionLine 2 (pos 3) ∷ questionLine 3 (pos 1) ∷ questionLine 4 (pos 3)
     ∷ questionLine 6 (pos 3) ∷ questionLine 7 (pos 1) ∷ questionLine 9 (negsuc 0) ∷ questionLine 10 (pos 1) ∷ questionLine 18 (pos 3)
     ∷ questionLine 19 (pos 1) ∷ rowLine 13 1 ∷ rowLine 22 1 ∷ rowLine 26 1 ∷ endLine 11 ∷ [])
-unfolding linesOf soundLines questionLines rowLines questions roundsTo lowered refusal header contents bodies polynomial coefficients last some offset two's word
+unfolding linesOf soundLines questionLines rowLines questions roundsTo restrict refusal header contents bodies polynomial coefficients last some offset two's word
     queryIn productTo patternsIn patternTo value sign-digit power upTo sumℤ sumTo
     realized rowsOf rowIf times patterns roundOf adapted lows signsOf keep shift
 example-lines = refl

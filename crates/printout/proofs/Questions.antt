@@ -12,23 +12,18 @@ use Rattle.signs.specs.Signs.{query}
 use Rattle.rounds.specs.Rows.{Row, patterns, Oracle, realized, Fits}
 use Rattle.rounds.specs.Rounds.{roundOf, Determined}
 use Rattle.rounds.proofs.Answers.{Facts, facts}
-use Rattle.rounds.proofs.Restrict.{restrict, restrict-below, restrict-same, fits-left}
+use Rattle.rounds.specs.Rows.{restrict}
+use Rattle.rounds.proofs.Restrict.{restrict-below, restrict-same, fits-left}
 use Rattle.rounds.proofs.Rounds.{realized-rows, fits-restrict, determined-empty}
 use Rattle.rounds.proofs.Questions.{exact-sum, at-most-593, rows-most}
-use Rattle.printout.specs.Printout.{lowered, roundsTo, questions}
-
-lowered-restrict : (i : ℕ) (E : List ℕ) → lowered i E ≡ restrict i E
-unfolding lowered restrict
-lowered-restrict i [] = refl
-lowered-restrict i (σ ∷ E) = ap (λ (l : List ℕ). (σ % 3 ^ i) ∷ l) (lowered-restrict i E)
+use Rattle.printout.specs.Printout.{roundsTo, questions}
 
 module _ (s : ℕ) (E : List ℕ) (O : Oracle s E) where
   -- the rows after round i are those of P1 .. Pi
-  rows-are : (i : ℕ) (zs : List ℤ) (ps : List ℕ) (R : List Row) → i ≤ s → Determined i zs ps R → Fits s E ps zs → realized i (lowered i E) ≡ R
+  rows-are : (i : ℕ) (zs : List ℤ) (ps : List ℕ) (R : List Row) → i ≤ s → Determined i zs ps R → Fits s E ps zs → realized i (restrict i E) ≡ R
   rows-are i zs ps R h d f =
       let F : Facts i zs ps R = facts i zs ps R d in
-      ap (realized i) (lowered-restrict i E)
-      ∙ realized-rows i (restrict i E) R (F .rows) (F .only (restrict i E) (restrict-below i E) (fits-restrict s i E ps zs h (F .under) (O .below) f))
+      realized-rows i (restrict i E) R (F .rows) (F .only (restrict i E) (restrict-below i E) (fits-restrict s i E ps zs h (F .under) (O .below) f))
 
   -- the products of rounds 0 .. i
   rounds-are : (i : ℕ) (zs : List ℤ) (ps : List ℕ) (R : List Row) → i ≤ s → Determined i zs ps R → Fits s E ps zs → ps ≡ 0 ∷ roundsTo i E
@@ -59,7 +54,7 @@ module _ (s : ℕ) (E : List ℕ) (O : Oracle s E) (zs : List ℤ) (ps : List �
   asked-questions = rounds-are s E O s zs ps R (omega arith) d f ∙ questions-are s E
 
   pub found-realized : R ≡ realized s E
-  found-realized = sym (rows-are s E O s zs ps R (omega arith) d f) ∙ ap (realized s) (lowered-restrict s E ∙ restrict-same s E (O .below))
+  found-realized = sym (rows-are s E O s zs ps R (omega arith) d f) ∙ ap (realized s) (restrict-same s E (O .below))
 
   pub few-rows : length (realized s E) ≤ mostPoints
   few-rows = subst (λ (l : List Row). length l ≤ mostPoints) found-realized (rows-most s zs ps R d)

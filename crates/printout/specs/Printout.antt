@@ -1,6 +1,5 @@
 -- The printout of a card (document 01, "One card through"), straight from the patterns of its points.
 --
---   lowered i E      == the patterns of P1 .. Pi alone, of points with the patterns E
 --   roundsTo i E     == the products of rounds 1 .. i (document 01, "The run"): "Round i (1 to s) takes the rows found for P1 .. P(i−1), their
 --                       adapted list A (for i = 1: product 0 alone), and asks every a in A with 3^(i−1) added, in order, then every a with
 --                       2 × 3^(i−1) added"
@@ -11,24 +10,21 @@
 --   together ls      == the text of lines one after the other
 --   printoutOf c     == the printout
 use mathlib.Core.List.{List, [], _∷_, _++_, map}
-use Prim.Native.Nat.{ℕ, zero, suc, _%_, _^_}
+use Prim.Native.Nat.{ℕ, zero, suc}
 use lib.ListN.{length}
 use Rattle.layout.specs.Format.{polynomials}
 use Rattle.card.specs.Card.{refusal}
 use Rattle.refusals.specs.Numbers.{unless}
 use Rattle.query.specs.Query.{queryOf, patternsOf}
-use Rattle.rounds.specs.Rows.{Row, patterns, realized}
+use Rattle.rounds.specs.Rows.{Row, patterns, restrict, realized}
 use Rattle.rounds.specs.Rounds.{roundOf}
 use Rattle.lines.specs.Text.{questionLine, rowLine, endLine, refusalLine}
 
 -- ---- the questions
 
-unfoldable pub lowered : ℕ → List ℕ → List ℕ
-lowered i E = map (λ σ. σ % 3 ^ i) E
-
 unfoldable pub roundsTo : ℕ → List ℕ → List ℕ
 roundsTo zero E = []
-roundsTo (suc i) E = roundsTo i E ++ roundOf i (patterns (realized i (lowered i E)))
+roundsTo (suc i) E = roundsTo i E ++ roundOf i (patterns (realized i (restrict i E)))
 
 unfoldable pub questions : ℕ → List ℕ → List ℕ
 questions s [] = 0 ∷ []

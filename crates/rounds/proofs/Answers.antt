@@ -24,7 +24,8 @@ use Rattle.signs.proofs.Tallies.{tally, Agree, none, plus, tally-plus}
 use Rattle.signs.proofs.Unique.{unique}
 use Rattle.rounds.specs.Rounds.{roundOf, Counts, Answered, Determined}
 use Rattle.rounds.specs.Rows.{Row, patterns, points, Positive, IsRows, rowIf, Fits}
-use Rattle.rounds.proofs.Restrict.{three-pos, sign-drop, restrict, restrict-below, restrict-count, query-drop, fits-same, fits-move, fits-left}
+use Rattle.rounds.specs.Rows.{restrict}
+use Rattle.rounds.proofs.Restrict.{three-pos, sign-drop, restrict-below, restrict-count, query-drop, fits-same, fits-move, fits-left}
 use Rattle.rounds.proofs.RowLaws.{times-single, no-count, no-pattern, rowIf-same, points-in, patterns-in, points-below, length-patterns}
 
 -- ---- product 0 counts the points

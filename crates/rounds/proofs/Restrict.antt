@@ -18,7 +18,7 @@ use Rattle.signs.proofs.Digits.{digits, low}
 use Rattle.signs.proofs.Lists.{times-nil, times-same, times-other, times-append}
 use Rattle.signs.proofs.Queries.{counts, query-tally}
 use Rattle.signs.proofs.Tallies.{Agree, tally-ext, none}
-use Rattle.rounds.specs.Rows.{Fits}
+use Rattle.rounds.specs.Rows.{Fits, restrict}
 
 pub three-pos : (i : ℕ) → 0 < 3 ^ i
 three-pos i = one-le-pow i 3 (omega arith)
@@ -45,11 +45,6 @@ sign-low zero i α σ a b =
 sign-low (suc d) i α σ a b =
     rw (suc-add d i, sign-drop (d + i) α σ (omega (arith, three-mono i (d + i) (omega arith))))
     (sign-low d i α (σ % 3 ^ (d + i)) a (mod-lt σ (three-pos (d + i))) ∙ ap (sign i α) (mod-mod-three σ d i))
-
--- the low digits of each pattern
-unfoldable pub restrict : ℕ → List ℕ → List ℕ
-restrict i [] = []
-restrict i (σ ∷ E) = (σ % 3 ^ i) ∷ restrict i E
 
 pub restrict-below : (i : ℕ) (E : List ℕ) → Below (3 ^ i) (restrict i E)
 unfolding restrict Below

@@ -22,7 +22,8 @@ use Rattle.rounds.specs.NextRows.{NextRows}
 use Rattle.rounds.specs.Rounds.{roundOf, Counts, Answered, Determined, Past, AtEnd}
 use Rattle.rounds.specs.Rows.{Row, patterns, points, Positive, IsRows, rowIf, rowsOf, Oracle, realized, Fits}
 use Rattle.rounds.proofs.Answers.{Facts, facts, query-zero, round-low}
-use Rattle.rounds.proofs.Restrict.{three-mono, restrict, restrict-below, restrict-same, restrict-count, query-low, query-drop, query-ext, fits-move, fits-append, fits-left, fits-right}
+use Rattle.rounds.specs.Rows.{restrict}
+use Rattle.rounds.proofs.Restrict.{three-mono, restrict-below, restrict-same, restrict-count, query-low, query-drop, query-ext, fits-move, fits-append, fits-left, fits-right}
 use Rattle.rounds.proofs.RowLaws.{zero-unless, rows-ext, rowsOf-rows, rowsOf-in, points-in, patterns-in, points-below}
 
 -- ---- lists

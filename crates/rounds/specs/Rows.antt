@@ -7,6 +7,7 @@
 --   IsRows i R                == rows for P1 .. Pi: patterns rising, counts above 0
 --   IsAt R p r                == the row r stands at position p, counted from 0, in R
 --   rowsOf n c                == the rows of the patterns below n that have a count c above 0, rising
+--   restrict i E              == the patterns of P1 .. Pi alone, of points with the patterns E
 --   Oracle s E                == E is what an examiner holds: "at most 64 sign patterns, repeats counted", of s polynomials
 --   realized s E              == its key: "each pattern number held, once, rising, with how often it is held; it may be empty"
 --   IsRealized E K            == the same in demand 3's words: "each pattern that occurs, once, in rising order, with its true count"
@@ -15,7 +16,7 @@
 use mathlib.Core.Path.{_≡_}
 use mathlib.Core.Logic.{_↔_}
 use mathlib.Core.List.{List, [], _∷_, _++_}
-use Prim.Native.Nat.{ℕ, zero, suc, _^_, _<_, _≤_}
+use Prim.Native.Nat.{ℕ, zero, suc, _%_, _^_, _<_, _≤_}
 use lib.IntN.{ℤ}
 use lib.ListN.{length, replicate}
 use Rattle.refusals.specs.Limits.{mostPoints}
@@ -70,6 +71,10 @@ rowsOf zero c = []
 rowsOf (suc n) c = rowsOf n c ++ rowIf n (c n)
 
 -- ---- oracles
+
+unfoldable pub restrict : ℕ → List ℕ → List ℕ
+restrict i [] = []
+restrict i (σ ∷ E) = (σ % 3 ^ i) ∷ restrict i E
 
 pub record Oracle (s : ℕ) (E : List ℕ) : Type 0 where
   pub held : length E ≤ mostPoints

@@ -26,7 +26,7 @@ use Rattle.rounds.specs.Rows.{Row, patterns, points, rowIf, rowsOf, Fits}
 use Rattle.runs.specs.Run.{Step, Phase, running, finished, closed, State, startOf, productAt, close, ended, endRound, goOn, first, later, inRound, inPhase, answerOf}
 use Rattle.rounds.proofs.Answers.{Facts, facts, more-rows, query-zero, round-low, round-once, round-length}
 use Rattle.rounds.proofs.RowLaws.{times-single}
-use Rattle.rounds.proofs.Restrict.{restrict}
+use Rattle.rounds.specs.Rows.{restrict}
 use Rattle.rounds.proofs.Questions.{rows-most}
 use Rattle.rounds.proofs.Rounds.{rows-oracle, determined-empty, next-counts, next-determined, oracle-next, fits-first, fits-last, query-small, end-nonempty, not-ended, fits-end}
 
