@@ -9,20 +9,22 @@ ghost use Prim.Native.Nat.{suc, _+_, _*_, _^_, _≤_, _<_, min};
 ghost use lib.Dec.{eqb};
 ghost use lib.ListN.{length, getD, set};
 ghost use lib.Seq.{sets};
+ghost use Rattle.refusals.specs.Limits.{mostPolynomials, mostPoints};
 ghost use Rattle.signs.specs.Lists.{Below, Rising, shift};
 ghost use Rattle.signs.specs.Bits.{bitOf};
 ghost use Rattle.signs.specs.Adapted.{adapted as adaptedOf};
 ghost use Rattle.adapted.specs.Split.{leading, headOf, Split, countOf, chosen, partsOf};
+use refusals::MOST_POINTS;
 use signs::bit;
 use signs::power;
 
 // How many elements of a rising list are below a bound: the place where the rest begins.
-fn place(s: &[u16], bound: u16) -> usize
-    ensures { λ r. ⌜ r ≡ leading bound (now (s .entry)) ⌝ }
+fn leading_count(l: &[u16], bound: u16) -> usize
+    ensures { λ r. ⌜ r ≡ leading bound (now (l .entry)) ⌝ }
 {
     let mut k = 0;
-    while k < s.len() {
-        if bound <= s[k] {
+    while k < l.len() {
+        if bound <= l[k] {
             return k;
         }
         k += 1;
@@ -31,11 +33,11 @@ fn place(s: &[u16], bound: u16) -> usize
 }
 
 // The low part of the element at k where k is before the end, else w, which is above every low part.
-fn head(s: &[u16], k: usize, end: usize, base: u16, w: u16) -> u16
-    requires { ⌜ (k < end → (k < length (now s)) × (base ≤ getD (now s) k 0)) ⌝ }
-    ensures { λ r. ⌜ r ≡ headOf (now (s .entry)) k end base w ⌝ }
+fn head(l: &[u16], k: usize, end: usize, base: u16, w: u16) -> u16
+    requires { ⌜ (k < end → (k < length (now l)) × (base ≤ getD (now l) k 0)) ⌝ }
+    ensures { λ r. ⌜ r ≡ headOf (now (l .entry)) k end base w ⌝ }
 {
-    if k < end { s[k] - base } else { w }
+    if k < end { l[k] - base } else { w }
 }
 
 fn least(x: u16, y: u16, z: u16) -> u16
@@ -68,23 +70,23 @@ fn advance(at: &mut [u8], k: usize, x: u16, q: u16, n: usize) -> usize
     k
 }
 
-// Takes the last polynomial, whose digit weighs w, off the rising list s, by merging its three blocks. Writes the patterns left to low, rising,
-// with the signs that each stood with to mark, and for each element of s the place of its low part in low to at. Returns how many are left.
-pub fn split(s: &[u16], w: u16, low: &mut [u16], mark: &mut [u8], at: &mut [u8]) -> usize
-    requires { ⌜ (w ≤ 2187) × Rising (now s) × Below (3 * w) (now s) × (length (now s) ≤ 64) ⌝ }
-    requires { ⌜ (length (now s) ≤ length (now low)) × (length (now s) ≤ length (now mark)) × (length (now s) ≤ length (now at)) ⌝ }
-    ensures { λ r. ⌜ Split w (now (s .entry)) r (now (low .exit)) (now (mark .exit)) (now (at .exit)) ⌝ }
+// Takes the last polynomial, whose digit weighs w, off the rising list l, by merging its three blocks. Writes the patterns left to low, rising,
+// with the signs that each stood with to mark, and for each element of l the place of its low part in low to at. Returns how many are left.
+pub fn split(l: &[u16], w: u16, low: &mut [u16], mark: &mut [u8], at: &mut [u8]) -> usize
+    requires { ⌜ (3 * w ≤ 3 ^ mostPolynomials) × Rising (now l) × Below (3 * w) (now l) × (length (now l) ≤ mostPoints) ⌝ }
+    requires { ⌜ (length (now l) ≤ length (now low)) × (length (now l) ≤ length (now mark)) × (length (now l) ≤ length (now at)) ⌝ }
+    ensures { λ r. ⌜ Split w (now (l .entry)) r (now (low .exit)) (now (mark .exit)) (now (at .exit)) ⌝ }
 {
-    let mid = place(s, w);
-    let top = place(s, 2 * w);
+    let mid = leading_count(l, w);
+    let top = leading_count(l, 2 * w);
     let mut a = 0;
     let mut b = mid;
     let mut c = top;
     let mut n = 0;
     loop {
-        let x = head(s, a, mid, 0, w);
-        let y = head(s, b, top, w, w);
-        let z = head(s, c, s.len(), 2 * w, w);
+        let x = head(l, a, mid, 0, w);
+        let y = head(l, b, top, w, w);
+        let z = head(l, c, l.len(), 2 * w, w);
         let q = least(x, y, z);
         if w <= q {
             return n;
@@ -136,38 +138,38 @@ pub fn having(low: &[u16], mark: &[u8], k: usize, out: &mut [u16]) -> usize
     n
 }
 
-// Writes the adapted list of the rising list s, patterns of i polynomials, to out from at on, with b added to each product.
+// Writes the adapted list of the rising list l, patterns of i polynomials, to out from at on, with b added to each product.
 // Returns the place after it.
-pub fn adapted(s: &[u16], i: usize, b: u16, out: &mut [u16], at: usize) -> usize
-    requires { ⌜ (i ≤ 8) × (b + 3 ^ i ≤ 6561) ⌝ }
-    requires { ⌜ Rising (now s) × Below (3 ^ i) (now s) ⌝ }
-    requires { ⌜ (length (now s) ≤ 64) × (at + length (now s) ≤ length (now out)) ⌝ }
-    ensures { λ r. ⌜ r ≡ at + length (now (s .entry)) ⌝ }
-    ensures { λ _. ⌜ now (out .exit) ≡ sets (now (out .entry)) at (shift b (adaptedOf i (now (s .entry)))) ⌝ }
+pub fn adapted(l: &[u16], i: usize, b: u16, out: &mut [u16], at: usize) -> usize
+    requires { ⌜ (i ≤ mostPolynomials) × (b + 3 ^ i ≤ 3 ^ mostPolynomials) ⌝ }
+    requires { ⌜ Rising (now l) × Below (3 ^ i) (now l) ⌝ }
+    requires { ⌜ (length (now l) ≤ mostPoints) × (at + length (now l) ≤ length (now out)) ⌝ }
+    ensures { λ r. ⌜ r ≡ at + length (now (l .entry)) ⌝ }
+    ensures { λ _. ⌜ now (out .exit) ≡ sets (now (out .entry)) at (shift b (adaptedOf i (now (l .entry)))) ⌝ }
 {
-    if s.len() == 0 {
+    if l.len() == 0 {
         return at;
     }
-    if s.len() == 1 {
+    if l.len() == 1 {
         out[at] = b;
         return at + 1;
     }
-    adapted_split(s, i - 1, b, out, at)
+    adapted_split(l, i - 1, b, out, at)
 }
 
 // The same for at least two patterns of i + 1 polynomials.
-fn adapted_split(s: &[u16], i: usize, b: u16, out: &mut [u16], at: usize) -> usize
-    requires { ⌜ (i ≤ 7) × (b + 3 ^ suc i ≤ 6561) ⌝ }
-    requires { ⌜ Rising (now s) × Below (3 ^ suc i) (now s) ⌝ }
-    requires { ⌜ (length (now s) ≤ 64) × (at + length (now s) ≤ length (now out)) ⌝ }
-    ensures { λ r. ⌜ r ≡ at + length (now (s .entry)) ⌝ }
-    ensures { λ _. ⌜ now (out .exit) ≡ sets (now (out .entry)) at (shift b (adaptedOf (suc i) (now (s .entry)))) ⌝ }
+fn adapted_split(l: &[u16], i: usize, b: u16, out: &mut [u16], at: usize) -> usize
+    requires { ⌜ (i < mostPolynomials) × (b + 3 ^ suc i ≤ 3 ^ mostPolynomials) ⌝ }
+    requires { ⌜ Rising (now l) × Below (3 ^ suc i) (now l) ⌝ }
+    requires { ⌜ (length (now l) ≤ mostPoints) × (at + length (now l) ≤ length (now out)) ⌝ }
+    ensures { λ r. ⌜ r ≡ at + length (now (l .entry)) ⌝ }
+    ensures { λ _. ⌜ now (out .exit) ≡ sets (now (out .entry)) at (shift b (adaptedOf (suc i) (now (l .entry)))) ⌝ }
 {
     let w = power(i);
-    let mut low = [0u16; 64];
-    let mut mark = [0u8; 64];
-    let mut place = [0u8; 64];
-    let n = split(s, w, &mut low, &mut mark, &mut place);
+    let mut low = [0u16; MOST_POINTS];
+    let mut mark = [0u8; MOST_POINTS];
+    let mut positions = [0u8; MOST_POINTS];
+    let n = split(l, w, &mut low, &mut mark, &mut positions);
     adapted_parts(&low[..n], &mark[..n], i, w, b, out, at)
 }
 
@@ -181,9 +183,9 @@ fn adapted_parts(
     out: &mut [u16],
     at: usize,
 ) -> usize
-    requires { ⌜ (i ≤ 7) × (w ≡ 3 ^ i) × (b + 3 ^ suc i ≤ 6561) ⌝ }
+    requires { ⌜ (i < mostPolynomials) × (w ≡ 3 ^ i) × (b + 3 ^ suc i ≤ 3 ^ mostPolynomials) ⌝ }
     requires { ⌜ Rising (now low) × Below (3 ^ i) (now low) × (length (now mark) ≡ length (now low)) × Below 8 (now mark) ⌝ }
-    requires { ⌜ (length (now low) ≤ 64) × (at + length (partsOf i (now low) (now mark)) ≤ length (now out)) ⌝ }
+    requires { ⌜ (length (now low) ≤ mostPoints) × (at + length (partsOf i (now low) (now mark)) ≤ length (now out)) ⌝ }
     ensures { λ r. ⌜ r ≡ at + length (partsOf i (now (low .entry)) (now (mark .entry))) ⌝ }
     ensures { λ _. ⌜ now (out .exit) ≡ sets (now (out .entry)) at (shift b (partsOf i (now (low .entry)) (now (mark .entry)))) ⌝ }
 {
@@ -202,13 +204,13 @@ fn adapted_high(
     out: &mut [u16],
     at: usize,
 ) -> usize
-    requires { ⌜ (i ≤ 7) × (b + 3 ^ i ≤ 6561) ⌝ }
+    requires { ⌜ (i < mostPolynomials) × (b + 3 ^ i ≤ 3 ^ mostPolynomials) ⌝ }
     requires { ⌜ Rising (now low) × Below (3 ^ i) (now low) × (length (now mark) ≡ length (now low)) × Below 8 (now mark) ⌝ }
-    requires { ⌜ (length (now low) ≤ 64) × (at + length (chosen k (now low) (now mark)) ≤ length (now out)) ⌝ }
+    requires { ⌜ (length (now low) ≤ mostPoints) × (at + length (chosen k (now low) (now mark)) ≤ length (now out)) ⌝ }
     ensures { λ r. ⌜ r ≡ at + length (chosen k (now (low .entry)) (now (mark .entry))) ⌝ }
     ensures { λ _. ⌜ now (out .exit) ≡ sets (now (out .entry)) at (shift b (adaptedOf i (chosen k (now (low .entry)) (now (mark .entry))))) ⌝ }
 {
-    let mut l = [0u16; 64];
+    let mut l = [0u16; MOST_POINTS];
     let n = having(low, mark, k, &mut l);
     adapted(&l[..n], i, b, out, at)
 }

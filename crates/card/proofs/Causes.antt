@@ -5,7 +5,7 @@ use Prim.Native.Nat.{ℕ, zero, suc}
 use native.Mathlib.Omega.{arith}
 use borrow.Author.Tests.{eqb-true}
 use lib.Dec.{eqb}
-use Rattle.card.specs.Numbers.{_when_, _▸_}
+use Rattle.refusals.specs.Numbers.{_when_, _▸_}
 
 -- the causes before b do not hold where a ▸ b is 0, nor does b
 pub first-none : (a b : ℕ) → (a ▸ b) ≡ 0 → a ≡ 0

@@ -8,7 +8,7 @@ use Prim.Native.Nat.{ℕ}
 use lib.IntN.{pos, negsuc}
 use lib.ListN.{take, set}
 use Rattle.integers.specs.Sums.{sumTo}
-use Rattle.signs.specs.Signs.{power}
+use Rattle.integers.specs.Powers.{power}
 use Rattle.layout.specs.Format.{two's, offset, word}
 use Rattle.layout.specs.Values.{value, value-of}
 use Rattle.card.specs.declared.Card.the-variants as Card

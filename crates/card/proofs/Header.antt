@@ -8,7 +8,7 @@ use Prim.Native.Nat.{ℕ, _≤_, _<_}
 use borrow.Author.Tests.{lt-ltb, le-ltb, ltb-false, eq-eqb, ne-eqb}
 use lib.Dec.{ltb, eqb}
 use lib.ListN.{length}
-use Rattle.card.specs.Numbers.{wrong-length, wrong-byte, wrong-count, _when_, _▸_}
+use Rattle.refusals.specs.Numbers.{wrongLength, wrongByte, wrongCount, _when_, _▸_}
 use Rattle.layout.specs.Format.{byte, polynomials, points, offset, first}
 use Rattle.card.specs.Card.{contents, header}
 use Rattle.card.proofs.Causes.{first-none, then-none, holds-not, is-equal}
@@ -28,11 +28,11 @@ module _ (c : List ℕ) where
   pub headed : header c ≡ 0 → Headed c
   unfolding header contents
   headed e =
-      let e1 = then-none (wrong-length when ltb (length c) 4) _ e in
-      let e2 = then-none (wrong-byte when (not (eqb (byte c 0) 1) || not (eqb (byte c 3) 0))) _ e1 in
-      let e3 = then-none (wrong-count when (ltb (polynomials c) 1 || ltb 8 (polynomials c))) _ e2 in
-      let e4 = then-none (wrong-count when ltb 64 (points c)) _ e3 in
-      let e5 = then-none (wrong-length when ltb (length c) (first c)) _ e4 in
+      let e1 = then-none (wrongLength when ltb (length c) 4) _ e in
+      let e2 = then-none (wrongByte when (not (eqb (byte c 0) 1) || not (eqb (byte c 3) 0))) _ e1 in
+      let e3 = then-none (wrongCount when (ltb (polynomials c) 1 || ltb 8 (polynomials c))) _ e2 in
+      let e4 = then-none (wrongCount when ltb 64 (points c)) _ e3 in
+      let e5 = then-none (wrongLength when ltb (length c) (first c)) _ e4 in
       let t2 = holds-not 1 (not (eqb (byte c 0) 1) || not (eqb (byte c 3) 0)) (first-none _ _ e1) in
       let t3 = holds-not 2 (ltb (polynomials c) 1 || ltb 8 (polynomials c)) (first-none _ _ e2) in
       record {

@@ -6,5 +6,5 @@ pub mod Points
 pub mod Bodies
 pub mod Sound
 pub mod Places
-pub mod Most
+pub mod Listed
 pub mod Edges

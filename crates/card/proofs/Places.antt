@@ -13,12 +13,14 @@ use lib.ListN.{length}
 use Rattle.integers.specs.Sums.{Within}
 use Rattle.layout.specs.Format.{polynomials, points, offset, points-at, point-of}
 use Rattle.card.specs.Card.{header, bodies, refusal, place}
-use Rattle.layout.specs.Limits.{most-coefficient}
+use Rattle.refusals.specs.Limits.{mostCoefficient}
 use Rattle.layout.specs.Body.{Whole, Body}
-use Rattle.layout.specs.Values.{evaluate, polynomial, value-of}
+use Rattle.polynomials.specs.Values.{evaluate}
+use Rattle.layout.specs.Values.{polynomial, value-of}
 use Rattle.layout.proofs.Coefficients.{polynomial-within, evaluate-polynomial}
 use Rattle.card.specs.Sound.{Sound}
-use Rattle.card.specs.Answers.{unless, reading}
+use Rattle.card.specs.Answers.{reading}
+use Rattle.refusals.specs.Numbers.{unless}
 use Rattle.card.specs.declared.Card.the-variants as Card
 use Rattle.card.proofs.Causes.{first-none, then-none, first-some, then-some, holds-not}
 use Rattle.card.proofs.Header.{Headed}
@@ -94,7 +96,7 @@ module _ (c : List ℕ) (s : Sound c) where
   pub body-place : (j : ℕ) → j < polynomials c → Whole c (offset c j)
   body-place j h = s .body j h .small .whole
 
-  pub body-within : (j : ℕ) → j < polynomials c → Within most-coefficient (polynomial c (offset c j))
+  pub body-within : (j : ℕ) → j < polynomials c → Within mostCoefficient (polynomial c (offset c j))
   body-within j h = polynomial-within c (offset c j) (s .body j h .small)
 
   -- the value of polynomial j at point k, by the coefficients taken off the card

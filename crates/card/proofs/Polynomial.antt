@@ -10,7 +10,7 @@ use lib.Dec.{ltb, leb}
 use lib.IntN.{pos, natAbs}
 use lib.ListN.{length}
 use Rattle.integers.proofs.Abs.{abs-zero}
-use Rattle.card.specs.Numbers.{_when_, _▸_}
+use Rattle.refusals.specs.Numbers.{_when_, _▸_}
 use Rattle.layout.specs.Format.{degree, size, coefficient, two's}
 use Rattle.card.specs.Card.{some, outside, coefficients, polynomial}
 use Rattle.layout.specs.Body.{Whole, Small, Body}

@@ -10,7 +10,7 @@ use lib.Dec.{eqb}
 use lib.ListN.{length}
 use Rattle.integers.proofs.Parts.{int}
 use Rattle.integers.proofs.Tests.{eq-cases}
-use Rattle.card.specs.Numbers.{_when_, _▸_}
+use Rattle.refusals.specs.Numbers.{_when_, _▸_}
 use Rattle.layout.specs.Format.{polynomials, points, offset, first, size, point}
 use Rattle.card.specs.Card.{some, outside, falling, header, polynomial, bodies, last, refusal}
 use Rattle.card.specs.Sound.{Sound}

@@ -4,10 +4,9 @@
 --   stretch c j     == where the body of polynomial j begins on c and how many bytes it has, or the number that refuses c or j
 --   body c j        == those bytes, or none where c or j is refused
 --   start c j       == the byte where the stretch begins, or 0 where c or j is refused
---   unless m f a   == a where the number m that refuses is 0, and f m where it is another
 --   evaluated c j x == the value of polynomial j of c at x, or the number that refuses c or j
 use mathlib.Core.List.{List, []}
-use Prim.Native.Nat.{ℕ, zero, suc}
+use Prim.Native.Nat.{ℕ}
 use lib.IntN.{ℤ}
 use lib.ListN.{take, drop}
 use Rattle.card.specs.declared.Card.{Card}
@@ -18,11 +17,8 @@ use Rattle.card.specs.declared.Evaluated.{Evaluated}
 use Rattle.card.specs.declared.Evaluated.the-variants as of-value
 use Rattle.layout.specs.Format.{polynomials, points, offset, size}
 use Rattle.card.specs.Card.{refusal, place}
+use Rattle.refusals.specs.Numbers.{unless}
 use Rattle.layout.specs.Values.{value}
-
-abbrev pub unless : {A : Type 0} → ℕ → (ℕ → A) → A → A
-unless zero refused a = a
-unless (suc m) refused a = refused (suc m)
 
 unfoldable pub reading : List ℕ → Card
 reading c = unless (refusal c) card.Refused (card.Sound (polynomials c) (points c))

@@ -18,8 +18,8 @@ use lib.Dec.{ltb, leb, eqb}
 use lib.IntN.{ℤ, natAbs}
 use lib.ListN.{length}
 use lib.Signed.{ltZ}
-use Rattle.card.specs.Numbers.{wrong-length, wrong-byte, wrong-count, wrong-offset, wrong-polynomial, wrong-point, past-last, _when_, _▸_}
-use Rattle.layout.specs.Limits.{most-polynomials, most-points, most-degree, most-coefficient, most-point}
+use Rattle.refusals.specs.Numbers.{wrongLength, wrongByte, wrongCount, wrongOffset, wrongPolynomial, wrongPoint, pastLast, _when_, _▸_}
+use Rattle.refusals.specs.Limits.{mostPolynomials, mostPoints, mostDegree, mostCoefficient, mostPoint}
 use Rattle.layout.specs.Format.{byte, polynomials, points, offset, first, degree, size, coefficient, point}
 
 unfoldable pub some : (ℕ → Bool) → ℕ → Bool
@@ -36,45 +36,45 @@ falling c at (suc k) = ltZ (point c at (suc k)) (point c at k)
 
 unfoldable pub last : List ℕ → ℕ → ℕ
 last c at =
-    wrong-length when not (eqb (length c) (at + points c))
-    ▸ wrong-point when some (λ k. outside most-point (point c at k) || falling c at k) (points c)
+    wrongLength when not (eqb (length c) (at + points c))
+    ▸ wrongPoint when some (λ k. outside mostPoint (point c at k) || falling c at k) (points c)
 
 -- ---- each polynomial
 unfoldable pub coefficients : List ℕ → ℕ → ℕ
 coefficients c at =
-    wrong-polynomial when some (λ i. outside most-coefficient (coefficient c at i)) (degree c at + 1)
-    ▸ wrong-polynomial when (ltb 0 (degree c at) && eqb (natAbs (coefficient c at (degree c at))) 0)
+    wrongPolynomial when some (λ i. outside mostCoefficient (coefficient c at i)) (degree c at + 1)
+    ▸ wrongPolynomial when (ltb 0 (degree c at) && eqb (natAbs (coefficient c at (degree c at))) 0)
 
 unfoldable pub polynomial : List ℕ → ℕ → ℕ
 polynomial c at =
-    wrong-length when leb (length c) at
-    ▸ wrong-polynomial when ltb most-degree (degree c at)
-    ▸ wrong-length when ltb (length c) (at + size c at)
+    wrongLength when leb (length c) at
+    ▸ wrongPolynomial when ltb mostDegree (degree c at)
+    ▸ wrongLength when ltb (length c) (at + size c at)
     ▸ coefficients c at
 
 unfoldable pub bodies : List ℕ → ℕ → ℕ → ℕ → ℕ
 bodies c zero j at = last c at
 bodies c (suc k) j at =
     polynomial c at
-    ▸ wrong-offset when not (eqb (offset c (suc j)) (at + size c at))
+    ▸ wrongOffset when not (eqb (offset c (suc j)) (at + size c at))
     ▸ bodies c k (suc j) (at + size c at)
 
 -- ---- the contents and the header
 unfoldable pub contents : List ℕ → ℕ
 contents c =
-    wrong-length when ltb (length c) (first c)
-    ▸ wrong-offset when not (eqb (offset c 0) (first c))
+    wrongLength when ltb (length c) (first c)
+    ▸ wrongOffset when not (eqb (offset c 0) (first c))
 
 unfoldable pub header : List ℕ → ℕ
 header c =
-    wrong-length when ltb (length c) 4
-    ▸ wrong-byte when (not (eqb (byte c 0) 1) || not (eqb (byte c 3) 0))
-    ▸ wrong-count when (ltb (polynomials c) 1 || ltb most-polynomials (polynomials c))
-    ▸ wrong-count when ltb most-points (points c)
+    wrongLength when ltb (length c) 4
+    ▸ wrongByte when (not (eqb (byte c 0) 1) || not (eqb (byte c 3) 0))
+    ▸ wrongCount when (ltb (polynomials c) 1 || ltb mostPolynomials (polynomials c))
+    ▸ wrongCount when ltb mostPoints (points c)
     ▸ contents c
 
 unfoldable pub refusal : List ℕ → ℕ
 refusal c = header c ▸ bodies c (polynomials c) 0 (first c)
 
 unfoldable pub place : List ℕ → ℕ → ℕ
-place c j = refusal c ▸ past-last when leb (polynomials c) j
+place c j = refusal c ▸ pastLast when leb (polynomials c) j

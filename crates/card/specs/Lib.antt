@@ -1,4 +1,3 @@
-pub mod Numbers
 pub mod Card
 pub mod Sound
 pub mod Answers

@@ -3,69 +3,90 @@ ghost use mathlib.Core.Path.{_≡_};
 ghost use Prim.Native.Nat.{_+_, _≤_};
 ghost use lib.IntN.{pos, _+ℤ_};
 ghost use lib.ListN.{length};
-ghost use Rattle.layout.specs.Limits.{most-coefficient};
+ghost use Rattle.refusals.specs.Limits.{mostCoefficient};
 ghost use Rattle.layout.specs.Format.{polynomials, points, first, two's};
 ghost use Rattle.layout.specs.Body.{Whole};
 ghost use Rattle.card.specs.Card.{contents, header, last, coefficients, polynomial, bodies, refusal, place, outside};
-use crate::numbers;
 use layout::first;
 use layout::offset;
 use layout::size;
 use layout::wide;
 use layout::word;
+use refusals::MOST_COEFFICIENT;
+use refusals::NONE;
+use refusals::PAST_LAST;
+use refusals::WRONG_BYTE;
+use refusals::WRONG_COUNT;
+use refusals::WRONG_LENGTH;
+use refusals::WRONG_OFFSET;
+use refusals::WRONG_POINT;
+use refusals::WRONG_POLYNOMIAL;
+
+// The limits, as bytes and words of a card have them.
+const MOST_POLYNOMIALS: u8 = refusals::MOST_POLYNOMIALS as u8;
+
+const MOST_POINTS: u8 = refusals::MOST_POINTS as u8;
+
+const MOST_DEGREE: u8 = refusals::MOST_DEGREE as u8;
+
+const LEAST_COEFFICIENT: u32 = 0xffff_ffff - MOST_COEFFICIENT + 1; // two's complement
+
+const LEAST_POINT: u8 = 128 - refusals::MOST_POINT; // with 128 added
+
+const MOST_POINT: u8 = 128 + refusals::MOST_POINT; // with 128 added
 
 // The contents, up to the first offset.
-fn contents(card: &[u8]) -> u8
+fn contents(card: &[u8]) -> u16
     requires { ⌜ 4 ≤ length (now card) ⌝ }
     ensures { λ r. ⌜ r ≡ contents (now (card .entry)) ⌝ }
 {
     let begin = first(card);
     if card.len() < begin {
-        return numbers::LENGTH;
+        return WRONG_LENGTH;
     }
     if offset(card, 0) != begin {
-        return numbers::OFFSET;
+        return WRONG_OFFSET;
     }
-    numbers::NONE
+    NONE
 }
 
 // The header and the contents.
-fn header(card: &[u8]) -> u8
+fn header(card: &[u8]) -> u16
     ensures { λ r. ⌜ r ≡ header (now (card .entry)) ⌝ }
 {
     if card.len() < 4 {
-        return numbers::LENGTH;
+        return WRONG_LENGTH;
     }
     if card[0] != 1 {
-        return numbers::BYTE;
+        return WRONG_BYTE;
     }
     if card[3] != 0 {
-        return numbers::BYTE;
+        return WRONG_BYTE;
     }
     if card[1] < 1 {
-        return numbers::COUNT;
+        return WRONG_COUNT;
     }
-    if numbers::MOST_POLYNOMIALS < card[1] {
-        return numbers::COUNT;
+    if MOST_POLYNOMIALS < card[1] {
+        return WRONG_COUNT;
     }
-    if numbers::MOST_POINTS < card[2] {
-        return numbers::COUNT;
+    if MOST_POINTS < card[2] {
+        return WRONG_COUNT;
     }
     contents(card)
 }
 
 // A coefficient outside its limits, by its four bytes.
 fn too_large(word: u32) -> bool
-    ensures { λ r. ⌜ r ≡ outside most-coefficient (two's 2147483648 word) ⌝ }
+    ensures { λ r. ⌜ r ≡ outside mostCoefficient (two's 2147483648 word) ⌝ }
 {
-    if word <= numbers::MOST_COEFFICIENT {
+    if word <= MOST_COEFFICIENT {
         return false;
     }
-    word < numbers::LEAST_COEFFICIENT
+    word < LEAST_COEFFICIENT
 }
 
 // The coefficients of the polynomial whose body begins at byte at: each within its limits, and the top one not 0 unless it is the constant.
-fn coefficients(card: &[u8], at: usize) -> u8
+fn coefficients(card: &[u8], at: usize) -> u16
     requires { ⌜ Whole (now card) at ⌝ }
     ensures { λ r. ⌜ r ≡ coefficients (now (card .entry)) at ⌝ }
 {
@@ -75,30 +96,30 @@ fn coefficients(card: &[u8], at: usize) -> u8
     while i <= d {
         top = word(card, at + 1 + 4 * i);
         if too_large(top) {
-            return numbers::POLYNOMIAL;
+            return WRONG_POLYNOMIAL;
         }
         i += 1;
     }
     if 0 < d {
         if top == 0 {
-            return numbers::POLYNOMIAL;
+            return WRONG_POLYNOMIAL;
         }
     }
-    numbers::NONE
+    NONE
 }
 
 // One polynomial, whose body begins at byte at.
-fn polynomial(card: &[u8], at: usize) -> u8
+fn polynomial(card: &[u8], at: usize) -> u16
     ensures { λ r. ⌜ r ≡ polynomial (now (card .entry)) at ⌝ }
 {
     if card.len() <= at {
-        return numbers::LENGTH;
+        return WRONG_LENGTH;
     }
-    if numbers::MOST_DEGREE < card[at] {
-        return numbers::POLYNOMIAL;
+    if MOST_DEGREE < card[at] {
+        return WRONG_POLYNOMIAL;
     }
     if card.len() < at + size(card, at) {
-        return numbers::LENGTH;
+        return WRONG_LENGTH;
     }
     coefficients(card, at)
 }
@@ -114,40 +135,40 @@ fn biased(b: u8) -> u8
 }
 
 // The points, which begin at byte at: each within its limits, none below the one before it.
-fn points(card: &[u8], at: usize) -> u8
+fn points(card: &[u8], at: usize) -> u16
     requires { ⌜ (4 ≤ length (now card)) × (length (now card) ≡ at + points (now card)) ⌝ }
     ensures { λ r. ⌜ r ≡ last (now (card .entry)) at ⌝ }
 {
     let n = wide(card[2]);
-    let mut low = numbers::LEAST_POINT;
+    let mut low = LEAST_POINT;
     let mut k = 0;
     while k < n {
         let p = biased(card[at + k]);
         if p < low {
-            return numbers::POINT;
+            return WRONG_POINT;
         }
-        if numbers::MOST_POINT < p {
-            return numbers::POINT;
+        if MOST_POINT < p {
+            return WRONG_POINT;
         }
         low = p;
         k += 1;
     }
-    numbers::NONE
+    NONE
 }
 
 // The bytes that are left, of which the points begin at byte at.
-fn last(card: &[u8], at: usize) -> u8
+fn last(card: &[u8], at: usize) -> u16
     requires { ⌜ (4 ≤ length (now card)) × (at ≤ length (now card)) ⌝ }
     ensures { λ r. ⌜ r ≡ last (now (card .entry)) at ⌝ }
 {
     if card.len() - at != wide(card[2]) {
-        return numbers::LENGTH;
+        return WRONG_LENGTH;
     }
     points(card, at)
 }
 
 // The bodies, after a sound header: each polynomial and the offset after it, then the points.
-fn bodies(card: &[u8]) -> u8
+fn bodies(card: &[u8]) -> u16
     requires { ⌜ header (now card) ≡ 0 ⌝ }
     ensures { λ r. ⌜ r ≡ bodies (now (card .entry)) (polynomials (now (card .entry))) 0 (first (now (card .entry))) ⌝ }
 {
@@ -156,39 +177,39 @@ fn bodies(card: &[u8]) -> u8
     let mut j = 0;
     while j < s {
         let number = polynomial(card, at);
-        if number != numbers::NONE {
+        if number != NONE {
             return number;
         }
         at += size(card, at);
         j += 1;
         if offset(card, j) != at {
-            return numbers::OFFSET;
+            return WRONG_OFFSET;
         }
     }
     last(card, at)
 }
 
 // The number of the first cause that refuses a card, or 0 where it is sound.
-pub fn refusal(card: &[u8]) -> u8
+pub fn refusal(card: &[u8]) -> u16
     ensures { λ r. ⌜ r ≡ refusal (now (card .entry)) ⌝ }
 {
     let number = header(card);
-    if number != numbers::NONE {
+    if number != NONE {
         return number;
     }
     bodies(card)
 }
 
 // The number that refuses a card or position j of a polynomial on it, or 0.
-pub fn place(card: &[u8], j: usize) -> u8
+pub fn place(card: &[u8], j: usize) -> u16
     ensures { λ r. ⌜ r ≡ place (now (card .entry)) j ⌝ }
 {
     let number = refusal(card);
-    if number != numbers::NONE {
+    if number != NONE {
         return number;
     }
     if wide(card[1]) <= j {
-        return numbers::POSITION;
+        return PAST_LAST;
     }
-    numbers::NONE
+    NONE
 }

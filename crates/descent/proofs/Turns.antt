@@ -4,7 +4,7 @@ use mathlib.Core.Bool.{Bool, true, false, cond}
 use mathlib.Core.List.{List, [], _∷_, map}
 use Prim.Native.Nat.{ℕ, zero, suc, _+_, _*_, _-_, _^_, _/_, _%_, _<_, _≤_}
 use native.Mathlib.Omega.{arith}
-use native.Mathlib.Nat.{le-refl, zero-div, zero-mod, one-le-pow, pow-le-pow-right}
+use native.Mathlib.Nat.{le-refl, zero-div, zero-mod, one-le-pow}
 use native.Mathlib.Decide.{decLt}
 use lib.Dec.{leb}
 use lib.IntN.{ℤ, pos, natAbs, _+ℤ_, _-ℤ_, _*ℤ_, +ℤ-idr}
@@ -14,7 +14,8 @@ use Rattle.integers.specs.Sums.{sumAbs, Within}
 use Rattle.integers.proofs.Diff.{one-*ℤ}
 use Rattle.integers.proofs.Abs.{abs-sum}
 use Rattle.signs.specs.Lists.{Below, Rising}
-use Rattle.signs.specs.Signs.{power, signOf, sign, weighted}
+use Rattle.integers.specs.Powers.{power}
+use Rattle.signs.specs.Signs.{signOf, sign, weighted}
 use Rattle.signs.specs.Adapted.{lows, adapted}
 use Rattle.adapted.specs.Split.{marksOf, countOf, chosen, Split}
 use Rattle.adapted.proofs.Adapting.{adapted-nil, adapted-single, fronts-lows, fronts-chosen, fronts-marks}
@@ -24,7 +25,8 @@ use Rattle.signs.proofs.Size.{as-many}
 use Rattle.signs.proofs.Positions.{below-at, place-of}
 use Rattle.adapted.proofs.Stores.{take-sets}
 use Rattle.moments.specs.Moments.{Second, Third, rank, addend, Spread, NumberAt, Combined}
-use Rattle.moments.proofs.Laws.{within-of, abs-second, abs-third}
+use Rattle.integers.proofs.Sums.{within-of}
+use Rattle.moments.proofs.Laws.{abs-second, abs-third}
 use Rattle.remains.proofs.Gathering.{below-all}
 use Rattle.solutions.specs.Solution.{limit, Posed, Solution}
 use Rattle.remains.specs.Remains.{remains}
@@ -192,9 +194,6 @@ parted i n L low mark at a b c s =
 -- a list at the front of an array
 pub front-list : (xs l₀ l : List ℕ) (n : ℕ) → n ≡ length xs → n ≤ length l₀ → l ≡ sets l₀ 0 xs → take n l ≡ xs
 front-list xs l₀ l n e h p = rw p (take-sets xs l₀ n e h)
-
-pub pow-seven : (i : ℕ) → i ≤ 7 → 3 ^ i ≤ 2187
-pow-seven i h = pow-le-pow-right (omega arith) h
 
 pub below-three : (i : ℕ) (l : List ℕ) → Below (3 ^ suc i) l → Below (3 * 3 ^ i) l
 below-three i l b = subst (λ (n : ℕ). Below n l) (three i) b

@@ -4,8 +4,9 @@
 //
 // The functions are for the solver, whose calls show what they require; the definitions are in specs/.
 ghost use mathlib.Core.Path.{_≡_};
-ghost use Prim.Native.Nat.{suc, _+_, _^_, _≤_};
+ghost use Prim.Native.Nat.{suc, _+_, _*_, _^_, _<_, _≤_};
 ghost use lib.ListN.{length};
+ghost use Rattle.refusals.specs.Limits.{mostPolynomials, mostPoints};
 ghost use Rattle.integers.specs.Sums.{Within};
 ghost use Rattle.signs.specs.Lists.{Below, Rising};
 ghost use Rattle.adapted.specs.Split.{chosen};
@@ -17,13 +18,14 @@ use moments::combine;
 use moments::put;
 use moments::second;
 use moments::third;
+use refusals::MOST_POINTS;
 use remains::left_over;
 use signs::power;
 
 // The numbers of the patterns l of i polynomials whose queries on the adapted list are x. False where there are none whose absolute values add up to at
-// most 64: those of inner numbers are never larger, so an inner list whose are is refused too.
+// most 64. Those of inner numbers never add up to more, so that a list is refused where one inside it is.
 pub fn solve_list(l: &[u16], i: usize, x: &[i16], out: &mut [i16]) -> bool
-    requires { ⌜ (i ≤ 8) × Rising (now l) × Below (3 ^ i) (now l) × (length (now l) ≤ 64) ⌝ }
+    requires { ⌜ (i ≤ mostPolynomials) × Rising (now l) × Below (3 ^ i) (now l) × (length (now l) ≤ mostPoints) ⌝ }
     requires { ⌜ (length (now x) ≡ length (now l)) × (length (now out) ≡ length (now l)) ⌝ }
     ensures { λ r. ⌜ Answer i (now (l .entry)) (now (x .entry)) (now (out .exit)) r ⌝ }
 {
@@ -43,15 +45,15 @@ pub fn solve_list(l: &[u16], i: usize, x: &[i16], out: &mut [i16]) -> bool
 
 // The same for at least two patterns of i + 1 polynomials.
 fn solve_split(l: &[u16], i: usize, x: &[i16], out: &mut [i16]) -> bool
-    requires { ⌜ (i ≤ 7) × Rising (now l) × Below (3 ^ suc i) (now l) × (length (now l) ≤ 64) ⌝ }
-    requires { ⌜ (length (now x) ≡ length (now l)) × (length (now out) ≡ length (now l)) × Within 64 (now x) ⌝ }
+    requires { ⌜ (i < mostPolynomials) × Rising (now l) × Below (3 ^ suc i) (now l) × (length (now l) ≤ mostPoints) ⌝ }
+    requires { ⌜ (length (now x) ≡ length (now l)) × (length (now out) ≡ length (now l)) × Within mostPoints (now x) ⌝ }
     ensures { λ r. ⌜ Answer (suc i) (now (l .entry)) (now (x .entry)) (now (out .exit)) r ⌝ }
 {
     let w = power(i);
     let m = l.len();
-    let mut low = [0u16; 64];
-    let mut mark = [0u8; 64];
-    let mut at = [0u8; 64];
+    let mut low = [0u16; MOST_POINTS];
+    let mut mark = [0u8; MOST_POINTS];
+    let mut at = [0u8; MOST_POINTS];
     let n = split(l, w, &mut low, &mut mark, &mut at);
     solve_low(l, i, w, x, &low[..n], &mark[..n], &at[..m], out)
 }
@@ -67,19 +69,19 @@ fn solve_low(
     at: &[u8],
     out: &mut [i16],
 ) -> bool
-    requires { ⌜ (i ≤ 7) × (w ≡ 3 ^ i) × Rising (now l) × Below (3 ^ suc i) (now l) × (length (now l) ≤ 64) ⌝ }
-    requires { ⌜ (length (now x) ≡ length (now l)) × (length (now out) ≡ length (now l)) × Within 64 (now x) ⌝ }
-    requires { ⌜ Parted i (now l) (now low) (now mark) (now at) × (length (now low) ≤ 64) × (length (now at) ≡ length (now l)) ⌝ }
+    requires { ⌜ (i < mostPolynomials) × (w ≡ 3 ^ i) × Rising (now l) × Below (3 ^ suc i) (now l) × (length (now l) ≤ mostPoints) ⌝ }
+    requires { ⌜ (length (now x) ≡ length (now l)) × (length (now out) ≡ length (now l)) × Within mostPoints (now x) ⌝ }
+    requires { ⌜ Parted i (now l) (now low) (now mark) (now at) × (length (now low) ≤ mostPoints) × (length (now at) ≡ length (now l)) ⌝ }
     ensures { λ r. ⌜ Answer (suc i) (now (l .entry)) (now (x .entry)) (now (out .exit)) r ⌝ }
 {
     let n = low.len();
-    let mut l2 = [0u16; 64];
-    let mut l3 = [0u16; 64];
+    let mut l2 = [0u16; MOST_POINTS];
+    let mut l3 = [0u16; MOST_POINTS];
     let n2 = having(low, mark, 2, &mut l2);
     let n3 = having(low, mark, 3, &mut l3);
-    let mut d = [0i16; 64];
-    let mut e = [0i16; 64];
-    let mut g = [0i16; 64];
+    let mut d = [0i16; MOST_POINTS];
+    let mut e = [0i16; MOST_POINTS];
+    let mut g = [0i16; MOST_POINTS];
     solve_with(
         l,
         i,
@@ -113,9 +115,9 @@ fn solve_with(
     g: &mut [i16],
     out: &mut [i16],
 ) -> bool
-    requires { ⌜ (i ≤ 7) × (w ≡ 3 ^ i) × Rising (now l) × Below (3 ^ suc i) (now l) × (length (now l) ≤ 64) ⌝ }
-    requires { ⌜ (length (now x) ≡ length (now l)) × (length (now out) ≡ length (now l)) × Within 64 (now x) ⌝ }
-    requires { ⌜ Parted i (now l) (now low) (now mark) (now at) × (length (now low) ≤ 64) × (length (now at) ≡ length (now l)) ⌝ }
+    requires { ⌜ (i < mostPolynomials) × (w ≡ 3 ^ i) × Rising (now l) × Below (3 ^ suc i) (now l) × (length (now l) ≤ mostPoints) ⌝ }
+    requires { ⌜ (length (now x) ≡ length (now l)) × (length (now out) ≡ length (now l)) × Within mostPoints (now x) ⌝ }
+    requires { ⌜ Parted i (now l) (now low) (now mark) (now at) × (length (now low) ≤ mostPoints) × (length (now at) ≡ length (now l)) ⌝ }
     requires { ⌜ (now l2 ≡ chosen 2 (now low) (now mark)) × (now l3 ≡ chosen 3 (now low) (now mark)) ⌝ }
     requires { ⌜ (length (now d) ≡ length (now low)) × (length (now e) ≡ length (now low)) × (length (now g) ≡ length (now low)) ⌝ }
     ensures { λ r. ⌜ Answer (suc i) (now (l .entry)) (now (x .entry)) (now (out .exit)) r ⌝ }
@@ -138,17 +140,17 @@ fn solve_with(
 
 // One of the later moments: v holds those known of the patterns low, and gets the others, those of l, whose marks have at least k signs.
 fn moment(l: &[u16], low: &[u16], mark: &[u8], k: usize, i: usize, x: &[i16], v: &mut [i16]) -> bool
-    requires { ⌜ (i ≤ 7) × Rising (now l) × Below (3 ^ i) (now l) × (length (now l) ≤ 64) × (now l ≡ chosen k (now low) (now mark)) ⌝ }
-    requires { ⌜ Below (3 ^ i) (now low) × (length (now low) ≤ 64) × (length (now mark) ≡ length (now low)) × Below 8 (now mark) ⌝ }
-    requires { ⌜ (length (now x) ≡ length (now l)) × (length (now v) ≡ length (now low)) × Within 64 (now x) × Within 128 (now v) ⌝ }
+    requires { ⌜ (i < mostPolynomials) × Rising (now l) × Below (3 ^ i) (now l) × (length (now l) ≤ mostPoints) × (now l ≡ chosen k (now low) (now mark)) ⌝ }
+    requires { ⌜ Below (3 ^ i) (now low) × (length (now low) ≤ mostPoints) × (length (now mark) ≡ length (now low)) × Below 8 (now mark) ⌝ }
+    requires { ⌜ (length (now x) ≡ length (now l)) × (length (now v) ≡ length (now low)) × Within mostPoints (now x) × Within (2 * mostPoints) (now v) ⌝ }
     ensures { λ r. ⌜ Moment i (now (l .entry)) (now (low .entry)) (now (mark .entry)) k (now (x .entry)) (now (v .entry)) (now (v .exit)) r ⌝ }
 {
     let n = l.len();
     if n == 0 {
         return true;
     }
-    let mut r = [0i16; 64];
-    let mut f = [0i16; 64];
+    let mut r = [0i16; MOST_POINTS];
+    let mut f = [0i16; MOST_POINTS];
     moment_with(l, low, mark, k, i, x, v, &mut r[..n], &mut f[..n])
 }
 
@@ -164,9 +166,9 @@ fn moment_with(
     r: &mut [i16],
     f: &mut [i16],
 ) -> bool
-    requires { ⌜ (i ≤ 7) × Rising (now l) × Below (3 ^ i) (now l) × (length (now l) ≤ 64) × (now l ≡ chosen k (now low) (now mark)) ⌝ }
-    requires { ⌜ Below (3 ^ i) (now low) × (length (now low) ≤ 64) × (length (now mark) ≡ length (now low)) × Below 8 (now mark) ⌝ }
-    requires { ⌜ (length (now x) ≡ length (now l)) × (length (now v) ≡ length (now low)) × Within 64 (now x) × Within 128 (now v) ⌝ }
+    requires { ⌜ (i < mostPolynomials) × Rising (now l) × Below (3 ^ i) (now l) × (length (now l) ≤ mostPoints) × (now l ≡ chosen k (now low) (now mark)) ⌝ }
+    requires { ⌜ Below (3 ^ i) (now low) × (length (now low) ≤ mostPoints) × (length (now mark) ≡ length (now low)) × Below 8 (now mark) ⌝ }
+    requires { ⌜ (length (now x) ≡ length (now l)) × (length (now v) ≡ length (now low)) × Within mostPoints (now x) × Within (2 * mostPoints) (now v) ⌝ }
     requires { ⌜ (length (now r) ≡ length (now l)) × (length (now f) ≡ length (now l)) ⌝ }
     ensures { λ b. ⌜ Moment i (now (l .entry)) (now (low .entry)) (now (mark .entry)) k (now (x .entry)) (now (v .entry)) (now (v .exit)) b ⌝ }
 {

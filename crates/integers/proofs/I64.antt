@@ -1,6 +1,6 @@
 -- Integers that an `i64` holds. A local of the code holds bits: where the code reads x back, a need says `toZ w64 (ofZ w64 x)`, and
 -- `toZ-ofZ` of `mir.Facts` is x again for an x that fits. A test `x == y` is a fact of the bits (`same-bits`), and `<` and `<=` are
--- tests of the integers (`Parts`, `int`). Assumes nothing.
+-- tests of the integers (`Parts`, `int`).
 use mathlib.Core.Path.{_≡_, sym, ap, _∙_}
 use Prim.Native.Nat.{ℕ, suc, _^_, _/_, _<_}
 use native.Mathlib.Nat.{div-le-self}
@@ -14,6 +14,10 @@ use Rattle.integers.proofs.Parts.{parts, mag-is, neg, int}
 -- a small absolute value
 pub fits-abs : (z : ℤ) → natAbs z < 2 ^ 63 → SFits w64 z
 fits-abs z h = omega (int, parts z)
+
+-- what is read back from a number's bits
+pub back-64 : (x : ℤ) → SFits w64 x → toZ w64 (ofZ w64 x) ≡ x
+back-64 x h = toZ-ofZ h
 
 -- two numbers that fit are equal where their bits are
 pub same-bits : (a b : ℤ) → SFits w64 a → SFits w64 b → ofZ w64 a ≡ ofZ w64 b → a ≡ b

@@ -6,7 +6,9 @@ pub mod Ring
 pub mod Expr
 pub mod Sign
 pub mod Sums
+pub mod Powers
 pub mod I64
+pub mod I16
 pub mod Stores
 pub mod Diff
 pub mod Examples

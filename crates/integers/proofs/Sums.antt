@@ -1,11 +1,12 @@
 -- Sums of integers over a list: `sumℤ`, and of their absolute values, `sumAbs`. Linearity, the bounds, and the step of a loop that has
--- passed the first i elements: what stands over `take (i + 1) xs` from what stands over `take i xs`. Assumes nothing.
+-- passed the first i elements: what stands over `take (i + 1) xs` from what stands over `take i xs`.
 use mathlib.Core.Path.{_≡_, refl, sym, ap, ap₂, _∙_}
 use mathlib.Core.List.{List, [], _∷_, _++_, map}
 use Prim.Native.Nat.{ℕ, zero, suc, _+_, _*_, _≤_, _<_}
 use native.Mathlib.Omega.{arith}
 use native.Mathlib.Numerals.{add-one}
-use lib.ListN.{length, getD, take}
+use native.Mathlib.Decide.{decLt}
+use lib.ListN.{length, getD, take, List·getD-eq-default}
 use lib.Seq.{take-suc, take-all}
 use lib.IntN.{ℤ, pos, negℤ, natAbs, _+ℤ_, _*ℤ_, +ℤ-idl, +ℤ-idr, +ℤ-assoc, *ℤ-zero}
 use Rattle.integers.specs.Sums.{sumℤ, sumAbs, Within, sumTo}
@@ -20,6 +21,17 @@ abs-sumℤ (x ∷ xs) = let ih = abs-sumℤ xs in omega (arith, abs-sum x (sum�
 
 within-tail : {b : ℕ} {x : ℤ} {xs : List ℤ} → Within b (x ∷ xs) → Within b xs
 within-tail w = record { at = λ k. w .at (suc k) }
+
+-- from the places of the list, and to a larger bound
+pub within-of : (n : ℕ) (v : List ℤ) → ((k : ℕ) → k < length v → natAbs (getD v k (pos 0)) ≤ n) → Within n v
+within-of n v f = record { at = λ j. go j (decLt j (length v)) }
+  where
+    go : (j : ℕ) → Dec (j < length v) → natAbs (getD v j (pos 0)) ≤ n
+    go j (yes h) = f j h
+    go j (no h) = rw (List·getD-eq-default v (pos 0) {n = j} (omega arith)) (omega arith)
+
+pub within-more : (m n : ℕ) (v : List ℤ) → m ≤ n → Within m v → Within n v
+within-more m n v h w = record { at = λ j. omega (arith, w .at j) }
 
 pub sumAbs-within : (b : ℕ) (xs : List ℤ) → Within b xs → sumAbs xs ≤ b * length xs
 unfolding sumAbs

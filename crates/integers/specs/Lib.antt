@@ -1,6 +1,7 @@
--- Definitions over the integers: sums, signs, halves and ranges.
+-- Definitions over the integers: sums, signs, halves, ranges and powers.
 pub mod Sums
 pub mod Sign
 pub mod Half
 pub mod Range
 pub mod Parts
+pub mod Powers

@@ -1,7 +1,9 @@
-// Signed 64-bit numbers: magnitude, exact halving and the symmetric range test. Each is defined for every argument.
+// Signed numbers. Of 64 bits: magnitude, exact halving and the symmetric range test, each defined for every argument. Of 16 bits: sums, differences,
+// a sign times a number and the change to 64 bits and back, for the crates above this one, whose calls show what they require.
 
 ghost use mathlib.Core.Path.{_≡_};
-ghost use lib.IntN.{natAbs};
+ghost use Prim.Native.Nat.{_+_, _≤_};
+ghost use lib.IntN.{natAbs, _+ℤ_, _-ℤ_, _*ℤ_};
 ghost use Rattle.integers.specs.Half.{halfOf};
 ghost use Rattle.integers.specs.Range.{isWithin};
 
@@ -42,4 +44,41 @@ pub fn within(x: i64, n: i64) -> bool
         return false;
     }
     0 - n <= x && x <= n
+}
+
+// A number of 16 bits as one of 64, and back.
+pub fn wide(x: i16) -> i64
+    ensures { λ r. ⌜ r ≡ x ⌝ }
+{
+    x as i64
+}
+
+pub fn narrow(x: i64) -> i16
+    requires { ⌜ natAbs x ≤ 32767 ⌝ }
+    ensures { λ r. ⌜ r ≡ x ⌝ }
+{
+    x as i16
+}
+
+// Sum and difference of numbers of 16 bits.
+pub fn plus(a: i16, b: i16) -> i16
+    requires { ⌜ natAbs a + natAbs b ≤ 32767 ⌝ }
+    ensures { λ r. ⌜ r ≡ a +ℤ b ⌝ }
+{
+    a + b
+}
+
+pub fn minus(a: i16, b: i16) -> i16
+    requires { ⌜ natAbs a + natAbs b ≤ 32767 ⌝ }
+    ensures { λ r. ⌜ r ≡ a -ℤ b ⌝ }
+{
+    a - b
+}
+
+// A sign times a number.
+pub fn scale(s: i64, x: i16) -> i16
+    requires { ⌜ (natAbs s ≤ 1) × (natAbs x ≤ 32767) ⌝ }
+    ensures { λ r. ⌜ r ≡ s *ℤ x ⌝ }
+{
+    narrow(s) * x
 }

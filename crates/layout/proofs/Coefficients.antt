@@ -1,4 +1,4 @@
--- The coefficients of a polynomial in a list of seven, 0 above its degree: the list as it is filled, its value, its bound. Assumes nothing.
+-- The coefficients of a polynomial in a list of seven, 0 above its degree: the list as it is filled, its value, its bound.
 use mathlib.Core.Path.{_≡_, refl, sym, ap, _∙_}
 use mathlib.Core.Logic.{_⊎_, inl, inr, ⊎-elim}
 use mathlib.Core.List.{List, [], _∷_}
@@ -11,11 +11,12 @@ use lib.Seq.{getD-set-same, getD-set-other, ext-getD}
 use Rattle.integers.specs.Sums.{sumTo, Within}
 use Rattle.integers.proofs.Sums.{sumTo-ext}
 use Rattle.integers.proofs.Tests.{eq-cases}
-use Rattle.signs.specs.Signs.{power}
-use Rattle.layout.specs.Limits.{most-coefficient}
+use Rattle.integers.specs.Powers.{power}
+use Rattle.refusals.specs.Limits.{mostCoefficient}
 use Rattle.layout.specs.Format.{degree, coefficient}
 use Rattle.layout.specs.Body.{Small}
-use Rattle.layout.specs.Values.{evaluate, up-to, polynomial, value}
+use Rattle.polynomials.specs.Values.{evaluate}
+use Rattle.layout.specs.Values.{up-to, polynomial, value}
 use Rattle.layout.proofs.Twos.{below-or}
 
 abbrev pub zeros : List ℤ
@@ -80,7 +81,7 @@ module _ (c : List ℕ) (at : ℕ) where
       past k h = List·getD-eq-default (polynomial c at) (pos 0) (rw seven h)
 
   -- ---- its bound
-  pub polynomial-within : Small c at → Within most-coefficient (polynomial c at)
+  pub polynomial-within : Small c at → Within mostCoefficient (polynomial c at)
   polynomial-within s = record { at = λ k. rw (all-seven (s .whole .low) k) (each k (below-or k (degree c at + 1))) }
     where
       each : (k : ℕ) → (k < degree c at + 1) ⊎ (degree c at + 1 ≤ k) → natAbs (up-to c at (degree c at + 1) k) ≤ 1000000

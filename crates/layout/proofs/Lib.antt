@@ -1,4 +1,3 @@
 pub mod Twos
-pub mod Horner
-pub mod Digit
 pub mod Coefficients
+pub mod Contents

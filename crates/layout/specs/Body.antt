@@ -8,17 +8,17 @@ use mathlib.Core.List.{List}
 use Prim.Native.Nat.{ℕ, _+_, _≤_, _<_}
 use lib.IntN.{pos, natAbs}
 use lib.ListN.{length}
-use Rattle.layout.specs.Limits.{most-degree, most-coefficient}
+use Rattle.refusals.specs.Limits.{mostDegree, mostCoefficient}
 use Rattle.layout.specs.Format.{degree, size, coefficient}
 
 pub record Whole (c : List ℕ) (at : ℕ) : Type 0 where
   pub begins : at < length c
-  pub low : degree c at ≤ most-degree
+  pub low : degree c at ≤ mostDegree
   pub ends : at + size c at ≤ length c
 
 pub record Small (c : List ℕ) (at : ℕ) : Type 0 where
   pub whole : Whole c at
-  pub small : (i : ℕ) → i ≤ degree c at → natAbs (coefficient c at i) ≤ most-coefficient
+  pub small : (i : ℕ) → i ≤ degree c at → natAbs (coefficient c at i) ≤ mostCoefficient
 
 pub record Body (c : List ℕ) (at : ℕ) : Type 0 where
   pub small : Small c at

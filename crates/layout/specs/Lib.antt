@@ -1,4 +1,4 @@
-pub mod Limits
 pub mod Format
 pub mod Body
 pub mod Values
+pub mod Contents

@@ -1,4 +1,4 @@
-// The numbers that stand on a card (document 01, "The card"), read off its bytes, and the values of its polynomials. Each call asks that the
+// The numbers that stand on a card (document 01, "The card"), read off its bytes, and the coefficients of its polynomials. Each call asks that the
 // bytes it reads are there; the crate `card` checks a whole card.
 pub mod values;
 

@@ -16,7 +16,8 @@ use Rattle.integers.proofs.Abs.{abs-sum}
 use Rattle.integers.proofs.Sums.{sumAbs-step, sumAbs-take}
 use Rattle.adapted.specs.Split.{countOf}
 use Rattle.moments.specs.Moments.{rank, addend, putOne, Spread, NumberAt}
-use Rattle.moments.proofs.Laws.{rank-zero, rank-suc, each-more, untouched-more, number-unique, same-front}
+use Rattle.integers.proofs.Stores.{each-more, untouched-more, same-front}
+use Rattle.moments.proofs.Laws.{rank-zero, rank-suc, number-unique}
 
 -- ---- put
 
@@ -51,8 +52,8 @@ putting-next k mark f v₀ v w n n′ j P h e en ew = go (leb k (countOf (getD m
           place = omega arith;
           ranked = en ∙ ap₂ _+_ (P .ranked) refl ∙ sym (ap (rank k mark) (add-one j) ∙ rank-suc k mark j h);
           long = rw (x, length-set) (P .long);
-          done = rw x (each-more (λ i z. z ≡ getD v₀ i (pos 0) +ℤ addend k mark f i) v j _ (omega (arith, P .long)) (rw first (ap (λ (z : ℤ). getD v₀ j (pos 0) +ℤ z) (here true t))) (P .done));
-          rest = rw x (untouched-more v₀ v j _ (P .rest));
+          done = rw x (each-more (pos 0) (λ i z. z ≡ getD v₀ i (pos 0) +ℤ addend k mark f i) v j _ (omega (arith, P .long)) (rw first (ap (λ (z : ℤ). getD v₀ j (pos 0) +ℤ z) (here true t))) (P .done));
+          rest = rw x (untouched-more (pos 0) v₀ v j _ (P .rest));
         }
     go false t =
         let x : w ≡ v = ew ∙ rw t refl in
@@ -97,7 +98,7 @@ pub too-many : (w k left m : ℕ) (L at : List ℕ) (d e g out ws : List ℤ) (u
     → left + sumAbs (take k out) ≡ 64 → ((j : ℕ) → j < k → NumberAt w L at d e g j (getD out j (pos 0))) → NumberAt w L at d e g k u → m ≡ natAbs u → left < m
     → ((j : ℕ) → j < length L → NumberAt w L at d e g j (getD ws j (pos 0))) → sumAbs ws ≤ 64 → ⊥
 too-many w k left m L at d e g out ws u h lo lw s f fu em hm f′ t =
-    let same : take k out ≡ take k ws = same-front k out ws (omega arith) (omega arith) (λ j q. at-unique w L at d e g j (getD out j (pos 0)) (getD ws j (pos 0)) (f j q) (f′ j (omega arith))) in
+    let same : take k out ≡ take k ws = same-front (pos 0) k out ws (omega arith) (omega arith) (λ j q. at-unique w L at d e g j (getD out j (pos 0)) (getD ws j (pos 0)) (f j q) (f′ j (omega arith))) in
     let this : u ≡ getD ws k (pos 0) = at-unique w L at d e g k u (getD ws k (pos 0)) fu (f′ k h) in
     omega (arith, sumAbs-step ws k (omega arith), sumAbs-take ws (k + 1), ap sumAbs same, ap natAbs this)
 

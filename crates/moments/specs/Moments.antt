@@ -1,9 +1,10 @@
--- The moments of patterns, as the code has them. Assumes nothing: these are definitions, of inner functions; what they mean for the numbers of a list
--- of patterns is proved in the crate `solver`.
+-- The moments of patterns, as the code has them: definitions of inner functions. What they mean for the numbers of a list of patterns is proved in
+-- the crate `descent`.
 --
 -- The three moments of a pattern q of P1 .. Pi are sums, over the signs of P(i+1), of the numbers of q with that sign: d of all three, e of + less −,
 -- g of + and −. A mark says with which signs q stands: 1 for 0, 2 for +, 4 for −, added up.
 --
+--   mostMoment             == 256, more than any moment's absolute value
 --   AllWithin n x b        == b says whether each number of x is in −n .. n
 --   CopiedWithin n x o b   == b says the same; if so, o holds the numbers of x
 --   secondOf m d           == e of a pattern with one sign, from d; 0 with more, where it is not known
@@ -21,14 +22,18 @@
 use mathlib.Core.Path.{_≡_}
 use mathlib.Core.Bool.{Bool, true, false, cond}
 use mathlib.Core.List.{List, [], _∷_}
-use Prim.Native.Nat.{ℕ, zero, suc, _+_, _/_, _%_, _<_, _≤_}
+use Prim.Native.Nat.{ℕ, zero, suc, _+_, _*_, _/_, _%_, _<_, _≤_}
 use lib.Dec.{eqb, leb}
 use lib.IntN.{ℤ, pos, _+ℤ_, _-ℤ_}
 use lib.ListN.{length, getD, set}
+use Rattle.refusals.specs.Limits.{mostPoints}
 use Rattle.integers.specs.Sums.{sumAbs, Within}
 use Rattle.integers.specs.declared.Half.{Half}
 use Rattle.integers.specs.declared.Half.the-variants.{Whole, Odd}
 use Rattle.adapted.specs.Split.{countOf}
+
+abbrev pub mostMoment : ℕ
+mostMoment = 4 * mostPoints
 
 abbrev pub AllWithin : ℕ → List ℤ → Bool → Type 0
 AllWithin n x true = Within n x
@@ -78,6 +83,6 @@ NumberAt w L at d e g k z =
     NumberOf (getD L k 0 / w) (getD d (getD at k 0) (pos 0)) (getD e (getD at k 0) (pos 0)) (getD g (getD at k 0) (pos 0)) z
 
 abbrev pub Combined : ℕ → List ℕ → List ℕ → List ℤ → List ℤ → List ℤ → List ℤ → Bool → Type 0
-Combined w L at d e g out true = ((k : ℕ) → k < length L → NumberAt w L at d e g k (getD out k (pos 0))) × (sumAbs out ≤ 64)
+Combined w L at d e g out true = ((k : ℕ) → k < length L → NumberAt w L at d e g k (getD out k (pos 0))) × (sumAbs out ≤ mostPoints)
 Combined w L at d e g out false =
-    (ws : List ℤ) → length ws ≡ length L → ((k : ℕ) → k < length L → NumberAt w L at d e g k (getD ws k (pos 0))) → sumAbs ws ≤ 64 → ⊥
+    (ws : List ℤ) → length ws ≡ length L → ((k : ℕ) → k < length L → NumberAt w L at d e g k (getD ws k (pos 0))) → sumAbs ws ≤ mostPoints → ⊥

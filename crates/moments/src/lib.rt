@@ -7,22 +7,28 @@ ghost use Prim.Native.Nat.{_+_, _*_, _≤_, _<_};
 ghost use lib.Dec.{leb};
 ghost use lib.IntN.{pos, natAbs, _+ℤ_, _-ℤ_};
 ghost use lib.ListN.{length, getD, drop};
+ghost use Rattle.refusals.specs.Limits.{mostPoints};
 ghost use Rattle.integers.specs.Sums.{Within};
 ghost use Rattle.signs.specs.Lists.{Below};
 ghost use Rattle.adapted.specs.Split.{countOf};
-ghost use Rattle.moments.specs.Moments.{AllWithin, CopiedWithin, secondOf, thirdOf, Second, Third, rank, Spread, putOne, Numbered, Combined};
+ghost use Rattle.moments.specs.Moments.{mostMoment, AllWithin, CopiedWithin, secondOf, thirdOf, Second, Third, rank, Spread, putOne, Numbered, Combined};
 use adapted::count;
 use integers::Half;
 use integers::halve;
 use integers::magnitude;
+use integers::minus;
+use integers::narrow;
+use integers::plus;
+use integers::wide;
+use refusals::MOST_POINTS;
 use signs::digit;
 
 // The largest absolute value that a number may have, and what the absolute values of a solution may add up to.
-const LIMIT: u64 = 64;
+const LIMIT: u64 = MOST_POINTS as u64;
 
 // Whether every number lies in −64 .. 64.
 pub fn all_small(x: &[i16]) -> bool
-    ensures { λ r. ⌜ AllWithin 64 (now (x .entry)) r ⌝ }
+    ensures { λ r. ⌜ AllWithin mostPoints (now (x .entry)) r ⌝ }
 {
     let mut k = 0;
     while k < x.len() {
@@ -35,38 +41,9 @@ pub fn all_small(x: &[i16]) -> bool
     true
 }
 
-// A small number of 64 bits, and one of 16 bits as one of 64.
-pub fn narrow(x: i64) -> i16
-    requires { ⌜ natAbs x ≤ 256 ⌝ }
-    ensures { λ r. ⌜ r ≡ x ⌝ }
-{
-    x as i16
-}
-
-pub fn wide(x: i16) -> i64
-    ensures { λ r. ⌜ r ≡ x ⌝ }
-{
-    x as i64
-}
-
-// The sum and the difference of small numbers.
-pub fn plus(a: i16, b: i16) -> i16
-    requires { ⌜ natAbs a + natAbs b ≤ 32767 ⌝ }
-    ensures { λ r. ⌜ r ≡ a +ℤ b ⌝ }
-{
-    a + b
-}
-
-pub fn minus(a: i16, b: i16) -> i16
-    requires { ⌜ natAbs a + natAbs b ≤ 32767 ⌝ }
-    ensures { λ r. ⌜ r ≡ a -ℤ b ⌝ }
-{
-    a - b
-}
-
 // The second moment of a pattern that stands with one sign, from its first and its mark; 0 where it stands with more.
 fn second_value(m: u8, d: i16) -> i16
-    requires { ⌜ natAbs d ≤ 256 ⌝ }
+    requires { ⌜ natAbs d ≤ mostMoment ⌝ }
     ensures { λ r. ⌜ r ≡ secondOf m d ⌝ }
 {
     if m == 2 {
@@ -77,7 +54,7 @@ fn second_value(m: u8, d: i16) -> i16
 
 // The third moment of a pattern that stands with one or two signs, from the others and its mark; 0 where it stands with three.
 fn third_value(m: u8, d: i16, e: i16) -> i16
-    requires { ⌜ natAbs e ≤ 256 ⌝ }
+    requires { ⌜ natAbs e ≤ mostMoment ⌝ }
     ensures { λ r. ⌜ r ≡ thirdOf m d e ⌝ }
 {
     if m % 2 == 0 {
@@ -91,7 +68,7 @@ fn third_value(m: u8, d: i16, e: i16) -> i16
 
 // Writes the known second moments to e.
 pub fn second(mark: &[u8], d: &[i16], e: &mut [i16])
-    requires { ⌜ (length (now d) ≡ length (now mark)) × (length (now e) ≡ length (now mark)) × Within 256 (now d) ⌝ }
+    requires { ⌜ (length (now d) ≡ length (now mark)) × (length (now e) ≡ length (now mark)) × Within mostMoment (now d) ⌝ }
     ensures { λ _. ⌜ Second (now (mark .entry)) (now (d .entry)) (now (e .exit)) ⌝ }
 {
     let mut j = 0;
@@ -105,7 +82,7 @@ pub fn second(mark: &[u8], d: &[i16], e: &mut [i16])
 
 // Writes the known third moments to g.
 pub fn third(mark: &[u8], d: &[i16], e: &[i16], g: &mut [i16])
-    requires { ⌜ (length (now d) ≡ length (now mark)) × (length (now e) ≡ length (now mark)) × (length (now g) ≡ length (now mark)) × Within 256 (now e) ⌝ }
+    requires { ⌜ (length (now d) ≡ length (now mark)) × (length (now e) ≡ length (now mark)) × (length (now g) ≡ length (now mark)) × Within mostMoment (now e) ⌝ }
     ensures { λ _. ⌜ Third (now (mark .entry)) (now (d .entry)) (now (e .entry)) (now (g .exit)) ⌝ }
 {
     let mut j = 0;
@@ -148,7 +125,7 @@ pub fn copy_wide(x: &[i16], out: &mut [i64])
 // Copies x to out where every number lies in −64 .. 64, or says that one does not.
 pub fn copy_small(x: &[i64], out: &mut [i16]) -> bool
     requires { ⌜ length (now out) ≡ length (now x) ⌝ }
-    ensures { λ r. ⌜ CopiedWithin 64 (now (x .entry)) (now (out .exit)) r ⌝ }
+    ensures { λ r. ⌜ CopiedWithin mostPoints (now (x .entry)) (now (out .exit)) r ⌝ }
 {
     let mut k = 0;
     while k < x.len() {
@@ -165,7 +142,7 @@ pub fn copy_small(x: &[i64], out: &mut [i16]) -> bool
 
 // Adds the number of f at n to v at j where the mark m has at least k signs. Returns where the next one of f is.
 fn put_one(m: u8, k: usize, f: &[i16], n: usize, v: &mut [i16], j: usize) -> usize
-    requires { ⌜ (m < 8) × (k ≤ countOf m → n < length (now f)) × (j < length (now v)) × (n < 65536) × Within 256 (now v) × Within 256 (now f) ⌝ }
+    requires { ⌜ (m < 8) × (k ≤ countOf m → n < length (now f)) × (j < length (now v)) × (n < 65536) × Within mostMoment (now v) × Within mostMoment (now f) ⌝ }
     ensures { λ r. ⌜ r ≡ n + cond (leb k (countOf m)) 1 0 ⌝ }
     ensures { λ _. ⌜ now (v .exit) ≡ putOne (leb k (countOf m)) (now (v .entry)) j (getD (now (v .entry)) j (pos 0) +ℤ getD (now (f .entry)) n (pos 0)) ⌝ }
 {
@@ -181,8 +158,8 @@ fn put_one(m: u8, k: usize, f: &[i16], n: usize, v: &mut [i16], j: usize) -> usi
 
 // Adds f to v at the patterns whose mark has at least k signs, in order.
 pub fn put(mark: &[u8], k: usize, f: &[i16], v: &mut [i16])
-    requires { ⌜ Below 8 (now mark) × (length (now v) ≡ length (now mark)) × (rank k (now mark) (length (now mark)) ≡ length (now f)) × (length (now mark) ≤ 64) ⌝ }
-    requires { ⌜ Within 128 (now v) × Within 64 (now f) ⌝ }
+    requires { ⌜ Below 8 (now mark) × (length (now v) ≡ length (now mark)) × (rank k (now mark) (length (now mark)) ≡ length (now f)) × (length (now mark) ≤ mostPoints) ⌝ }
+    requires { ⌜ Within (2 * mostPoints) (now v) × Within mostPoints (now f) ⌝ }
     ensures { λ _. ⌜ Spread k (now (mark .entry)) (now (f .entry)) (now (v .entry)) (now (v .exit)) ⌝ }
 {
     let mut n = 0;
@@ -195,7 +172,7 @@ pub fn put(mark: &[u8], k: usize, f: &[i16], v: &mut [i16])
 
 // The number of a pattern whose last digit is c from the moments of its low part, or that it is not whole.
 fn number(c: u16, d: i16, e: i16, g: i16) -> Half
-    requires { ⌜ (natAbs d ≤ 256) × (natAbs e ≤ 256) × (natAbs g ≤ 256) ⌝ }
+    requires { ⌜ (natAbs d ≤ mostMoment) × (natAbs e ≤ mostMoment) × (natAbs g ≤ mostMoment) ⌝ }
     ensures { λ r. ⌜ Numbered c d e g r ⌝ }
 {
     if c == 0 {
@@ -219,7 +196,7 @@ pub fn combine(
     out: &mut [i16],
 ) -> bool
     requires { ⌜ Below (3 * w) (now l) × (length (now at) ≡ length (now l)) × (length (now out) ≡ length (now l)) × Below (length (now d)) (now at) ⌝ }
-    requires { ⌜ (length (now e) ≡ length (now d)) × (length (now g) ≡ length (now d)) × Within 256 (now d) × Within 256 (now e) × Within 256 (now g) ⌝ }
+    requires { ⌜ (length (now e) ≡ length (now d)) × (length (now g) ≡ length (now d)) × Within mostMoment (now d) × Within mostMoment (now e) × Within mostMoment (now g) ⌝ }
     ensures { λ r. ⌜ Combined w (now (l .entry)) (now (at .entry)) (now (d .entry)) (now (e .entry)) (now (g .entry)) (now (out .exit)) r ⌝ }
 {
     let mut left = LIMIT;

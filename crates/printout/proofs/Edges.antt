@@ -1,4 +1,4 @@
--- Document 01's printed card, a card without points and a refused card, by computing the definitions. Assumes nothing.
+-- Document 01's printed card, a card without points and a refused card, by computing the definitions.
 --
 --   example == the card of document 01, "One card through": P1 = X, P2 = X + 1, P3 = X − 2 at −3, 1, 3
 --   empty   == one polynomial, X, and no points
@@ -7,14 +7,15 @@ use mathlib.Core.List.{List, [], _∷_}
 use Prim.Native.Nat.{ℕ}
 use lib.IntN.{pos, negsuc}
 use lib.ListN.{set}
-use Rattle.integers.specs.Sums.{sumTo}
+use Rattle.integers.specs.Sums.{sumℤ, sumTo}
 use Rattle.signs.specs.Lists.{times, upTo, keep, shift}
 use Rattle.signs.specs.Adapted.{adapted, lows, signsOf}
-use Rattle.signs.specs.Signs.{power}
+use Rattle.integers.specs.Powers.{power}
+use Rattle.signs.specs.Signs.{sign-digit}
+use Rattle.contents.specs.Contents.{productTo, queryIn, patternTo, patternsIn}
 use Rattle.layout.specs.Format.{two's, offset, word}
-use Rattle.layout.specs.Values.{value, sign-digit}
+use Rattle.layout.specs.Values.{value}
 use Rattle.card.specs.Card.{some, contents, header, polynomial, coefficients, bodies, last, refusal}
-use Rattle.query.specs.Query.{productTo, queryOf, patternTo, patternsOf}
 use Rattle.rounds.specs.Rows.{patterns, rowIf, rowsOf, realized}
 use Rattle.rounds.specs.Rounds.{roundOf}
 use Rattle.lines.specs.Text.{decimalTo, decimal, signed, questionLine, rowLine, endLine, refusalLine}
@@ -37,7 +38,7 @@ refused-text = refl
 -- `Q 0 0` and `E 1`
 empty-text : printoutOf empty ≡ (81 ∷ 32 ∷ 48 ∷ 32 ∷ 48 ∷ 10 ∷ 69 ∷ 32 ∷ 49 ∷ 10 ∷ [])
 unfolding printoutOf together linesOf soundLines questionLines rowLines questions refusal header contents bodies polynomial coefficients last some offset two's word
-    questionLine endLine decimal decimalTo signed queryOf patternsOf upTo sumTo realized rowsOf rowIf times
+    questionLine endLine decimal decimalTo signed queryIn patternsIn upTo sumℤ realized rowsOf rowIf times
 empty-text = refl
 
 -- the 15 lines
@@ -46,7 +47,8 @@ example-lines : linesOf example ≡
     ∷ questionLine 6 (pos 3) ∷ questionLine 7 (pos 1) ∷ questionLine 9 (negsuc 0) ∷ questionLine 10 (pos 1) ∷ questionLine 18 (pos 3)
     ∷ questionLine 19 (pos 1) ∷ rowLine 13 1 ∷ rowLine 22 1 ∷ rowLine 26 1 ∷ endLine 11 ∷ [])
 unfolding linesOf soundLines questionLines rowLines questions roundsTo lowered refusal header contents bodies polynomial coefficients last some offset two's word
-    queryOf productTo patternsOf patternTo value sign-digit power upTo sumTo realized rowsOf rowIf times patterns roundOf adapted lows signsOf keep shift
+    queryIn productTo patternsIn patternTo value sign-digit power upTo sumℤ sumTo
+    realized rowsOf rowIf times patterns roundOf adapted lows signsOf keep shift
 example-lines = refl
 
 -- `Q 9 -1`

@@ -1,13 +1,16 @@
--- A card without points: "With no points that is `Q 0 0`, `E 1`" (document 01, "One card through"). Assumes nothing.
+-- A card without points: "With no points that is `Q 0 0`, `E 1`" (document 01, "One card through").
 use mathlib.Core.Path.{_≡_, refl, ap, _∙_}
 use mathlib.Core.List.{List, [], _∷_, map}
 use Prim.Native.Nat.{ℕ}
 use lib.IntN.{ℤ, pos}
 use Rattle.signs.specs.Lists.{Below, Rising, upTo}
-use Rattle.layout.specs.Format.{polynomials, points}
+use Rattle.contents.specs.Contents.{patternsIn, patternAt}
+use Rattle.contents.proofs.Patterns.{query-none}
+use Rattle.layout.specs.Format.{polynomials, points, point-of}
+use Rattle.layout.specs.Contents.{contentsOf}
+use Rattle.layout.proofs.Contents.{points-long}
 use Rattle.card.specs.Sound.{Sound}
-use Rattle.query.specs.Query.{queryOf, patternAt, patternsOf}
-use Rattle.query.proofs.Answers.{query-none}
+use Rattle.query.specs.Query.{queryOf, patternsOf}
 use Rattle.rounds.specs.Rows.{patterns, Positive, IsRows, realized}
 use Rattle.rounds.specs.Rows as rows
 use Rattle.rounds.proofs.Rounds.{realized-rows}
@@ -27,4 +30,7 @@ unfolding soundLines questionLines rowLines questions
 lines-with c z e f = rw (e, no-rows (polynomials c), f) refl
 
 pub no-points : (c : List ℕ) → Sound c → points c ≡ 0 → linesOf c ≡ (questionLine 0 (pos 0) ∷ endLine 1 ∷ [])
-no-points c S e = sound-lines c S ∙ lines-with c (pos 0) (unfold patternsOf upTo in ap (λ (n : ℕ). map (patternAt c) (upTo n)) e) (query-none c ∙ ap pos e)
+no-points c S e =
+    sound-lines c S
+    ∙ lines-with c (pos 0) (unfold patternsIn upTo in ap (λ (n : ℕ). map (patternAt (contentsOf c)) (map (point-of c) (upTo n))) e)
+    (query-none (contentsOf c) ∙ ap pos (points-long c ∙ e))

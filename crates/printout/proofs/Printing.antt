@@ -1,5 +1,5 @@
 -- THEOREM: the lines of a play from the beginning on a card are `linesOf` the card, at most 658, and then it is over. On a sound card the run answered by
--- the card's queries ends done, with the patterns of the card's points, each with its number of points. Assumes nothing.
+-- the card's queries ends done, with the patterns of the card's points, each with its number of points.
 use mathlib.Core.Path.{_≡_, refl, sym, ap, _∙_, subst}
 use mathlib.Core.List.{List, [], _∷_, _++_, append-assoc, append-nil}
 use Prim.Native.Nat.{ℕ, zero, suc, _+_, _*_, _^_, _<_, _≤_}
@@ -9,12 +9,15 @@ use borrow.Author.Tests.{le-leb, lt-ltb, le-ltb}
 use lib.IntN.{ℤ}
 use lib.ListN.{length, take, getD, length-append, length-map}
 use lib.Seq.{getD-append-seam}
-use Rattle.refusals.specs.Limits.{mostPoints}
 use Rattle.signs.specs.Lists.{times}
-use Rattle.signs.proofs.Lists.{times-nil, times-same, times-other, times-append}
+use Rattle.signs.proofs.Lists.{times-nil, times-same, times-other, times-append, times-take}
+use Rattle.contents.proofs.Patterns.{query-patterns}
 use Rattle.layout.specs.Format.{polynomials}
+use Rattle.layout.specs.Contents.{contentsOf}
+use Rattle.layout.proofs.Contents.{points-long}
 use Rattle.card.specs.Card.{refusal}
-use Rattle.card.specs.Answers.{unless}
+use Rattle.refusals.specs.Limits.{mostPoints, mostQuestions}
+use Rattle.refusals.specs.Numbers.{unless}
 use Rattle.card.specs.Sound.{Sound}
 use Rattle.card.proofs.Sound.{sound, unrefused}
 use Rattle.query.specs.declared.Opened.{Opened}
@@ -23,20 +26,19 @@ use Rattle.query.specs.Opened.{opened, answer}
 use Rattle.query.specs.Query.{queryOf, patternsOf}
 use Rattle.query.proofs.Opening.{answer-opened, opened-sound}
 use Rattle.query.proofs.Answers.{query-sound, query-refused}
-use Rattle.query.proofs.Patterns.{query-patterns, patterns-long, patterns-below}
 use Rattle.rounds.specs.Rows.{Row, patterns, Oracle, realized, IsRealized, Fits}
 use Rattle.rounds.specs.Rounds.{roundOf, Determined}
 use Rattle.rounds.specs.RoundEnd.{roundRows}
 use Rattle.rounds.proofs.Answers.{Facts, facts, round-low}
 use Rattle.rounds.proofs.Restrict.{fits-append, three-pos, three-mono}
 use Rattle.rounds.proofs.RoundEnds.{roundRows-right}
-use Rattle.rounds.proofs.Realized.{realized-true}
 use Rattle.runs.specs.Run.{State, Step, ask, done, refused, Phase, running, finished, startOf, answerOf, fetchRule, fetchOf}
 use Rattle.determination.specs.Record.{startedOf}
-use Rattle.runs.specs.Demand.{play, heard, asks}
-use Rattle.runs.specs.Truthful.{truthful, enough}
+use Rattle.runs.specs.Demand.{heard, asks}
+use Rattle.runs.specs.Truthful.{enough}
 use Rattle.runs.proofs.Invariant.{Closed, At, Inv, start-inv, going-short, After, answer-running}
-use Rattle.runs.proofs.Truthful.{truthful-done}
+use Rattle.contents_runs.specs.Runs.{runOn}
+use Rattle.contents_runs.proofs.Runs.{oracle, contents-done, contents-rows}
 use Rattle.lines.specs.Text.{questionLine, rowLine, endLine, refusalLine}
 use Rattle.printout.specs.Printout.{questions, questionLines, rowLines, soundLines, linesOf}
 use Rattle.printout.specs.Progress.{Stage, question, row-at, over, ProgressState, begunOf, gives, onStep, onAnswer, afterRow, onFetch, nextAt, nextOf, Prints}
@@ -62,7 +64,7 @@ module _ (o : Opened) (r : State) (done : r .phase ≡ finished) where
   unfolding nextOf nextAt onFetch fetchOf fetchRule afterRow
   next-row p x h b g = rw (done, lt-ltb p (length (r .rows)) h, lt-ltb p 64 b, g) refl
 
-  rows-print : length (r .rows) ≤ 64 → (before after : List Row) → before ++ after ≡ r .rows
+  rows-print : length (r .rows) ≤ mostPoints → (before after : List Row) → before ++ after ≡ r .rows
       → Prints (at o r (row-at (length before))) (rowLines after ++ (endLine (r .total) ∷ []))
   unfolding rowLines
   rows-print few before [] e =
@@ -77,11 +79,6 @@ module _ (o : Opened) (r : State) (done : r .phase ≡ finished) where
       (rows-print few (before ++ (x ∷ [])) after (append-assoc before (x ∷ []) after ∙ e)))
 
 -- ---- the questions
-
-times-take : (α k : ℕ) (l : List ℕ) → times α (take k l) ≤ times α l
-times-take α zero l = omega (arith, times-nil α)
-times-take α (suc k) [] = omega arith
-times-take α (suc k) (x ∷ l) = omega (arith, times-append α (x ∷ []) (take k l), times-append α (x ∷ []) l, times-take α k l)
 
 -- a product asked is one of the s polynomials
 asked-below : (s : ℕ) (r : State) (zs : List ℤ) (qs : List ℕ) (α : ℕ) → Inv s r zs (qs ++ (α ∷ [])) → r .phase ≡ running → α < 3 ^ s
@@ -146,8 +143,8 @@ module _ (c : List ℕ) (S : Sound c) where
   abbrev E : List ℕ
   E = patternsOf c
 
-  oracle : Oracle s E
-  oracle = record { held = omega (arith, patterns-long c, S .n-most); below = patterns-below c }
+  holds : Oracle s E
+  holds = oracle (contentsOf c) (omega (arith, points-long c, S .n-most))
 
   -- the lines after the questions
   abbrev tail : List (List ℕ)
@@ -158,8 +155,8 @@ module _ (c : List ℕ) (S : Sound c) where
     rest : List ℕ
     all : qs ++ rest ≡ questions s E
     prints : Prints t (questionLines c rest ++ tail)
-    few-q : length (questions s E) ≤ 593
-    few-r : length (realized s E) ≤ 64
+    few-q : length (questions s E) ≤ mostQuestions
+    few-r : length (realized s E) ≤ mostPoints
 
   card-answers : (α : ℕ) → α < 3 ^ s → answer (opened c) α ≡ of-query.Number (queryOf c α)
   card-answers α b = answer-opened c α ∙ query-sound c α S b
@@ -184,7 +181,7 @@ module _ (c : List ℕ) (S : Sound c) where
       A = answer-running roundRows roundRows-right s r zs ps z (S .s-least) I e
 
       fit : Fits s E ps (zs ++ (z ∷ []))
-      fit = fits-append s E qs (α ∷ []) zs (z ∷ []) l f (unfold Fits in (query-patterns c α, tt))
+      fit = fits-append s E qs (α ∷ []) zs (z ∷ []) l f (unfold Fits in (query-patterns (contentsOf c) α, tt))
 
       first : nextOf (at (opened c) r (question α)) ≡ onStep (opened c) α z (answerOf roundRows r z)
       first = unfold nextOf nextAt onAnswer in ap (onAnswer (opened c) r α) (card-answers α (asked-below s r zs qs α I e))
@@ -217,7 +214,7 @@ module _ (c : List ℕ) (S : Sound c) where
                 subst (Prints (at (opened c) r (question α))) (question-more c α [] tail)
                 (prints-more (at (opened c) r (question α)) (at (opened c) r′ (row-at 0)) (questionLine α z) (questionLines c [] ++ tail)
                 (first ∙ ap (onStep (opened c) α z) h ∙ step-done (opened c) α z r′) rows);
-            few-q = few-questions s E oracle (zs ++ (z ∷ [])) ps (r′ .rows) D fit (S .s-most);
+            few-q = few-questions s E holds (zs ++ (z ∷ [])) ps (r′ .rows) D fit (S .s-most);
             few-r = few;
           }
         where
@@ -231,13 +228,13 @@ module _ (c : List ℕ) (S : Sound c) where
           D = subst (λ (p : Phase). At s r′ (zs ++ (z ∷ [])) ps p (r′ .round)) fin (J .at)
 
           q : ps ≡ questions s E
-          q = asked-questions s E oracle (zs ++ (z ∷ [])) ps (r′ .rows) D fit
+          q = asked-questions s E holds (zs ++ (z ∷ [])) ps (r′ .rows) D fit
 
           found : r′ .rows ≡ realized s E
-          found = found-realized s E oracle (zs ++ (z ∷ [])) ps (r′ .rows) D fit
+          found = found-realized s E holds (zs ++ (z ∷ [])) ps (r′ .rows) D fit
 
-          few : length (realized s E) ≤ 64
-          few = few-rows s E oracle (zs ++ (z ∷ [])) ps (r′ .rows) D fit
+          few : length (realized s E) ≤ mostPoints
+          few = few-rows s E holds (zs ++ (z ∷ [])) ps (r′ .rows) D fit
 
           total : r′ .total ≡ length (questions s E)
           total = J .count ∙ sym lengths ∙ ap length q
@@ -247,11 +244,11 @@ module _ (c : List ℕ) (S : Sound c) where
               unfold questionLines in
               subst (λ (R : List Row). Prints (at (opened c) r′ (row-at 0)) (rowLines R ++ (endLine (length (questions s E)) ∷ []))) found
               (subst (λ (n : ℕ). Prints (at (opened c) r′ (row-at 0)) (rowLines (r′ .rows) ++ (endLine n ∷ []))) total
-              (rows-print (opened c) r′ fin (subst (λ (R : List Row). length R ≤ 64) (sym found) few) [] (r′ .rows) refl))
+              (rows-print (opened c) r′ fin (subst (λ (R : List Row). length R ≤ mostPoints) (sym found) few) [] (r′ .rows) refl))
       go (r′, refused n) h B =
           let C : Closed s (zs ++ (z ∷ [])) ps =
           subst (λ (p : Phase). At s r′ (zs ++ (z ∷ [])) ps p (r′ .round)) (sym (B .phase)) (last r′ (B .inv) .at) in
-          absurd (C .none-fits (E, oracle, fit))
+          absurd (C .none-fits (E, holds, fit))
 
   goes : (k : ℕ) → Goes k
   goes zero = λ r zs qs α I e l f m. absurd (omega (arith, running-short s r zs (qs ++ (α ∷ [])) I e))
@@ -328,9 +325,8 @@ sound-lines c S = rw (unrefused c S) refl
 -- on a sound card the run answered by the card's queries ends done, with the patterns of the card's points, each once, rising, with its number of points
 module _ (c : List ℕ) (S : Sound c) where
   pub card-done : (k : ℕ) → enough (polynomials c) ≤ k
-      → let r = play roundRows (startOf (polynomials c)) (truthful roundRows (polynomials c) (patternsOf c) k (startOf (polynomials c)) 0) in
-      (r .phase ≡ finished) × (r .rows ≡ realized (polynomials c) (patternsOf c))
-  card-done k h = truthful-done (polynomials c) (patternsOf c) (S .s-least) (oracle c S) k h
+      → (runOn (contentsOf c) k .phase ≡ finished) × (runOn (contentsOf c) k .rows ≡ realized (polynomials c) (patternsOf c))
+  card-done = contents-done (contentsOf c) (S .s-least) (omega (arith, points-long c, S .n-most))
 
   pub card-rows : IsRealized (patternsOf c) (realized (polynomials c) (patternsOf c))
-  card-rows = realized-true (polynomials c) (patternsOf c) (patterns-below c)
+  card-rows = contents-rows (contentsOf c)

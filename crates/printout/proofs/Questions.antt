@@ -1,12 +1,12 @@
 -- The products that the rounds ask, where the answers are the queries of a list E of patterns: they are `questions s E`, and the rows are the realized
--- list. Assumes nothing.
+-- list.
 use mathlib.Core.Path.{_≡_, refl, sym, ap, ap₂, _∙_, subst}
 use mathlib.Core.List.{List, [], _∷_, _++_}
 use Prim.Native.Nat.{ℕ, zero, suc, _+_, _%_, _^_, _≤_}
 use native.Mathlib.Omega.{arith}
 use lib.IntN.{ℤ, pos}
 use lib.ListN.{length}
-use Rattle.refusals.specs.Limits.{mostPolynomials}
+use Rattle.refusals.specs.Limits.{mostPolynomials, mostPoints, mostQuestions}
 use Rattle.signs.specs.Lists.{Below}
 use Rattle.signs.specs.Signs.{query}
 use Rattle.rounds.specs.Rows.{Row, patterns, Oracle, realized, Fits}
@@ -61,10 +61,10 @@ module _ (s : ℕ) (E : List ℕ) (O : Oracle s E) (zs : List ℤ) (ps : List �
   pub found-realized : R ≡ realized s E
   found-realized = sym (rows-are s E O s zs ps R (omega arith) d f) ∙ ap (realized s) (lowered-restrict s E ∙ restrict-same s E (O .below))
 
-  pub few-rows : length (realized s E) ≤ 64
-  few-rows = subst (λ (l : List Row). length l ≤ 64) found-realized (rows-most s zs ps R d)
+  pub few-rows : length (realized s E) ≤ mostPoints
+  few-rows = subst (λ (l : List Row). length l ≤ mostPoints) found-realized (rows-most s zs ps R d)
 
-  pub few-questions : s ≤ mostPolynomials → length (questions s E) ≤ 593
+  pub few-questions : s ≤ mostPolynomials → length (questions s E) ≤ mostQuestions
   few-questions h =
       let (r, each, e) = exact-sum s zs ps R d in
-      subst (λ (l : List ℕ). length l ≤ 593) asked-questions (at-most-593 s (length ps) zs r h each e)
+      subst (λ (l : List ℕ). length l ≤ mostQuestions) asked-questions (at-most-593 s (length ps) zs r h each e)

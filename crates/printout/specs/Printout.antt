@@ -1,4 +1,4 @@
--- The printout of a card (document 01, "One card through"), straight from the patterns of its points. Assumes nothing: these are definitions.
+-- The printout of a card (document 01, "One card through"), straight from the patterns of its points.
 --
 --   lowered i E      == the patterns of P1 .. Pi alone, of points with the patterns E
 --   roundsTo i E     == the products of rounds 1 .. i (document 01, "The run"): "Round i (1 to s) takes the rows found for P1 .. P(i−1), their
@@ -15,7 +15,7 @@ use Prim.Native.Nat.{ℕ, zero, suc, _%_, _^_}
 use lib.ListN.{length}
 use Rattle.layout.specs.Format.{polynomials}
 use Rattle.card.specs.Card.{refusal}
-use Rattle.card.specs.Answers.{unless}
+use Rattle.refusals.specs.Numbers.{unless}
 use Rattle.query.specs.Query.{queryOf, patternsOf}
 use Rattle.rounds.specs.Rows.{Row, patterns, realized}
 use Rattle.rounds.specs.Rounds.{roundOf}

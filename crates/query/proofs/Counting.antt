@@ -1,5 +1,5 @@
 -- The query of a product on an opened card by words: the points left, where the product is not 0, and among them those where an odd number of factors
--- is negative. Assumes nothing.
+-- is negative.
 --
 --   signAt l o     == the sign at a point by its bit l among the points left and its bit o among the odd ones
 --   Kept P a rest j left odd == at each point of the opened card P the sign that these two words give, times the sign of the product `rest` of its first j
@@ -21,7 +21,8 @@ use Rattle.integers.proofs.Ring.{*ℤ-assoc, *ℤ-left-comm, *ℤ-1}
 use Rattle.integers.proofs.Parts.{int, sum, dif}
 use Rattle.integers.proofs.Sums.{sumTo-ext}
 use Rattle.signs.specs.Lists.{total}
-use Rattle.signs.specs.Signs.{signOf, power, sign}
+use Rattle.integers.specs.Powers.{power}
+use Rattle.signs.specs.Signs.{signOf, sign}
 use Rattle.signs.proofs.Digits.{top, low}
 use Rattle.query.specs.declared.Opened.{Opened}
 use Rattle.query.specs.Opened.{bitAt, digitBy, columnTo, summed}

@@ -1,4 +1,4 @@
--- Document 01's card, product by product, and the edges about queries, computed from the definitions. Assumes nothing.
+-- Document 01's card, product by product, and the edges about queries, computed from the definitions.
 --
 --   example == the card of document 01, "One card through": P1 = X, P2 = X + 1, P3 = X − 2 at −3, 1, 3
 --   eight   == eight polynomials, each the constant 1, at the point 5
@@ -8,14 +8,16 @@ use mathlib.Core.List.{List, [], _∷_, map}
 use Prim.Native.Nat.{ℕ}
 use lib.IntN.{pos, negsuc}
 use lib.ListN.{take}
-use Rattle.integers.specs.Sums.{sumTo}
+use Rattle.integers.specs.Sums.{sumℤ, sumTo}
 use Rattle.signs.specs.Lists.{upTo}
-use Rattle.signs.specs.Signs.{power}
+use Rattle.integers.specs.Powers.{power}
+use Rattle.signs.specs.Signs.{sign-digit}
+use Rattle.contents.specs.Contents.{productTo, queryIn, patternTo, patternsIn}
 use Rattle.layout.specs.Format.{two's, offset, word}
-use Rattle.layout.specs.Values.{value, sign-digit}
+use Rattle.layout.specs.Values.{value}
 use Rattle.card.specs.Card.{some, contents, header, polynomial, coefficients, bodies, last, refusal}
 use Rattle.query.specs.declared.Answer.the-variants as of-query
-use Rattle.query.specs.Query.{productTo, queryOf, patternTo, patternsOf, queryAnswer}
+use Rattle.query.specs.Query.{patternsOf, queryAnswer}
 
 abbrev pub example : List ℕ
 example =
@@ -47,7 +49,8 @@ pub record QueryEdges : Type 0 where
   pub card-first : queryAnswer (take 41 example) 27 ≡ of-query.Refused 1
 
 pub query-edges : QueryEdges
-unfolding queryAnswer queryOf productTo patternsOf patternTo upTo sumTo power value sign-digit offset two's word refusal header contents bodies polynomial coefficients last some
+unfolding queryAnswer queryIn productTo patternsIn patternTo upTo sumℤ sumTo power value sign-digit offset two's word
+    refusal header contents bodies polynomial coefficients last some
 query-edges =
     record {
       printed = refl;

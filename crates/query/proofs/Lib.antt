@@ -1,7 +1,5 @@
-pub mod Patterns
 pub mod Words
 pub mod Counting
 pub mod Opening
-pub mod Products
 pub mod Answers
 pub mod Edges

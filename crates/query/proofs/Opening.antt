@@ -1,116 +1,119 @@
 -- An opened card: the words that `evaluate` leaves are those of `opened`, and what an opened card answers is `queryAnswer` of the card.
--- Assumes nothing.
 --
---   Filled c d s l == the list l holds the words of the first s polynomials for the sign digit d, and 0 for the others
+--   Filled K d s l == the list l holds the words of the first s polynomials of K for the sign digit d, and 0 for the others
 use mathlib.Core.Path.{_≡_, refl, sym, ap, subst, _∙_}
-use mathlib.Core.Bool.{true, false, _||_}
+use mathlib.Core.Bool.{Bool, true, false, _||_}
 use mathlib.Core.Logic.{⊎-elim}
-use mathlib.Core.List.{List, [], _∷_, _++_, map}
+use mathlib.Core.List.{List, [], _∷_, map}
 use Prim.Native.Nat.{ℕ, zero, suc, _+_, _^_, _<_, _≤_}
 use native.Mathlib.Omega.{arith}
 use native.Mathlib.Numerals.{add-one}
-use borrow.Author.Tests.{lt-ltb, le-ltb, le-leb, lt-leb}
+use borrow.Author.Tests.{lt-ltb, le-ltb, le-leb, lt-leb, ne-eqb}
 use lib.Dec.{ltb}
-use lib.ListN.{length, getD, set, replicate, length-set, length-replicate, List·getD-append}
-use lib.Seq.{ext-getD, getD-at, getD-set-same, getD-set-other}
+use lib.IntN.{ℤ, pos}
+use lib.ListN.{length, getD, set, replicate, length-map, length-set, length-replicate}
+use lib.Seq.{ext-getD, getD-set-same, getD-set-other}
+use Rattle.refusals.specs.Numbers.{wrongCount, wrongProduct, cardNumbers, isAmong, _▸_, unless}
+use Rattle.refusals.specs.Limits.{mostPolynomials, mostPoints}
 use Rattle.integers.specs.Sign.{sgnℤ}
-use Rattle.integers.proofs.Sums.{sumTo-ext}
+use Rattle.integers.specs.Sums.{sumTo}
+use Rattle.integers.proofs.Sums.{sumTo-ext, sumTo-list}
 use Rattle.integers.proofs.Tests.{eq-cases}
-use Rattle.signs.specs.Lists.{upTo}
-use Rattle.signs.specs.Signs.{sign}
+use Rattle.signs.specs.Lists.{Below, upTo}
+use Rattle.signs.specs.Signs.{sign, sign-digit}
 use Rattle.signs.specs.Bits.{bitOf}
 use Rattle.signs.proofs.Digitwise.{bit-le}
+use Rattle.signs.proofs.SignDigits.{digit-small}
+use Rattle.contents.specs.Contents.{Contents, patternTo, valuesAt, productValue, queryIn}
+use Rattle.contents.proofs.Patterns.{map-below, sgn-product}
 use Rattle.layout.specs.Format.{polynomials, points}
-use Rattle.layout.specs.Values.{value-of, sign-digit}
-use Rattle.layout.proofs.Digit.{digit-small}
+use Rattle.layout.specs.Contents.{contentsOf}
+use Rattle.layout.proofs.Contents.{upTo-long, map-upTo-at, points-long}
 use Rattle.layout.proofs.Twos.{below-or}
-use Rattle.card.specs.Numbers.{_▸_}
 use Rattle.card.specs.Card.{refusal}
-use Rattle.card.specs.Answers.{unless, reading}
+use Rattle.card.specs.Answers.{reading}
 use Rattle.card.specs.declared.Card.the-variants as card
 use Rattle.card.specs.Sound.{Sound}
 use Rattle.card.proofs.Sound.{sound, unrefused}
-use Rattle.card.proofs.Most.{refusal-most}
+use Rattle.card.proofs.Listed.{refusal-listed}
 use Rattle.query.specs.declared.Opened.{Opened}
 use Rattle.query.specs.declared.Answer.{Answer}
 use Rattle.query.specs.declared.Answer.the-variants as of-query
-use Rattle.query.specs.Query.{productAt, queryOf, patternTo, queryAnswer}
-use Rattle.query.specs.Opened.{bitAt, signBit, signWord, wordIn, wordsOf, digitBy, columnTo, evaluated, refused, opened, summed, unlimited, refusedBy, answer}
-use Rattle.query.proofs.Patterns.{map-upTo, map-long, sgn-product}
+use Rattle.query.specs.Query.{queryAnswer}
+use Rattle.query.specs.Opened.{bitAt, pointBits, signWord, wordIn, wordsIn, digitBy, columnTo, evaluated, refused, opened}
+use Rattle.query.specs.Opened.{summed, unlimited, ownNumber, refusedBy, answer}
 use Rattle.query.proofs.Words.{word-bit}
 
 -- ---- the lists
-
-map-at : (f : ℕ → ℕ) (n k : ℕ) → k < n → getD (map f (upTo n)) k 0 ≡ f k
-map-at f zero k h = absurd (omega arith)
-map-at f (suc n) k h = rw (map-upTo f n) (⊎-elim (λ w. rw (w .0) last) (λ w. before (omega (arith, w .0)) (map-at f n k)) (eq-cases k n))
-  where
-    last : getD (map f (upTo n) ++ (f n ∷ [])) n 0 ≡ f n
-    last = getD-at (map f (upTo n)) (f n) [] 0 n (map-long f n)
-
-    before : k < n → (k < n → getD (map f (upTo n)) k 0 ≡ f k) → getD (map f (upTo n) ++ (f n ∷ [])) k 0 ≡ f k
-    before g ih = List·getD-append (map f (upTo n)) (f n ∷ []) 0 k (omega (arith, map-long f n)) ∙ ih g
 
 none-at : (n k : ℕ) → getD {A = ℕ} (replicate n 0) k 0 ≡ 0
 none-at zero k = refl
 none-at (suc n) zero = refl
 none-at (suc n) (suc k) = none-at n k
 
-pub record Filled (c : List ℕ) (d s : ℕ) (l : List ℕ) : Type 0 where
-  pub long : length l ≡ 8
-  pub at : (j : ℕ) → getD l j 0 ≡ wordIn c d s j
+pub record Filled {X : Type 0} (K : Contents X) (d s : ℕ) (l : List ℕ) : Type 0 where
+  pub long : length l ≡ mostPolynomials
+  pub at : (j : ℕ) → getD l j 0 ≡ wordIn K d s j
 
-module _ (c : List ℕ) (d : ℕ) where
-  word-in : (s j : ℕ) → j < s → wordIn c d s j ≡ signWord c d j
+module _ {X : Type 0} (K : Contents X) (d : ℕ) where
+  word-in : (s j : ℕ) → j < s → wordIn K d s j ≡ signWord K d j
   unfolding wordIn
   word-in s j h = rw (lt-ltb j s h) refl
 
-  word-past : (s j : ℕ) → s ≤ j → wordIn c d s j ≡ 0
+  word-past : (s j : ℕ) → s ≤ j → wordIn K d s j ≡ 0
   unfolding wordIn
   word-past s j h = rw (le-ltb j s h) refl
 
-  pub filled-none : Filled c d 0 (replicate 8 0)
-  filled-none = record { long = length-replicate {A = ℕ} 8 0; at = λ j. none-at 8 j ∙ sym (word-past 0 j (omega arith)) }
+  pub filled-none : Filled K d 0 (replicate mostPolynomials 0)
+  filled-none =
+      record { long = length-replicate {A = ℕ} mostPolynomials 0; at = λ j. none-at mostPolynomials j ∙ sym (word-past 0 j (omega arith)) }
 
   -- one polynomial more
-  pub filled-next : (s : ℕ) (l : List ℕ) (v : ℕ) → Filled c d s l → s < 8 → v ≡ signWord c d s → Filled c d (s + 1) (set l s v)
+  pub filled-next : (s : ℕ) (l : List ℕ) (v : ℕ) → Filled K d s l → s < mostPolynomials → v ≡ signWord K d s
+      → Filled K d (s + 1) (set l s v)
   filled-next s l v m h e =
       rw (add-one s) (record { long = simp length-set (m .long); at = λ j. ⊎-elim (λ w. here j (w .0)) (λ w. other j (w .0)) (eq-cases j s) })
     where
-      here : (j : ℕ) → j ≡ s → getD (set l s v) j 0 ≡ wordIn c d (suc s) j
+      here : (j : ℕ) → j ≡ s → getD (set l s v) j 0 ≡ wordIn K d (suc s) j
       here j x =
-          subst (λ (i : ℕ). getD (set l s v) i 0 ≡ wordIn c d (suc s) i) (sym x)
+          subst (λ (i : ℕ). getD (set l s v) i 0 ≡ wordIn K d (suc s) i) (sym x)
           (getD-set-same l s v 0 (omega (arith, m .long)) ∙ e ∙ sym (word-in (suc s) s (omega arith)))
 
-      other : (j : ℕ) → (j ≡ s → ⊥) → getD (set l s v) j 0 ≡ wordIn c d (suc s) j
+      other : (j : ℕ) → (j ≡ s → ⊥) → getD (set l s v) j 0 ≡ wordIn K d (suc s) j
       other j x =
           getD-set-other l s j v 0 x ∙ m .at j
           ∙ ⊎-elim (λ g. word-in s j g ∙ sym (word-in (suc s) j (omega arith))) (λ g. word-past s j g ∙ sym (word-past (suc s) j (omega arith)))
           (below-or j s)
 
-  words-at : (j : ℕ) → j < 8 → getD (wordsOf c d) j 0 ≡ wordIn c d (polynomials c) j
-  unfolding wordsOf
-  words-at j h = map-at (wordIn c d (polynomials c)) 8 j h
+  words-at : (j : ℕ) → j < mostPolynomials → getD (wordsIn K d) j 0 ≡ wordIn K d (K .s) j
+  unfolding wordsIn
+  words-at j h = map-upTo-at (wordIn K d (K .s)) mostPolynomials j 0 h
 
-  words-long : length (wordsOf c d) ≡ 8
-  unfolding wordsOf
-  words-long = map-long (wordIn c d (polynomials c)) 8
+  words-long : length (wordsIn K d) ≡ mostPolynomials
+  unfolding wordsIn
+  words-long = length-map (upTo mostPolynomials) (wordIn K d (K .s)) ∙ upTo-long mostPolynomials
 
-  filled-all : (s : ℕ) (l : List ℕ) → s ≡ polynomials c → Filled c d s l → l ≡ wordsOf c d
+  filled-all : (s : ℕ) (l : List ℕ) → s ≡ K .s → Filled K d s l → l ≡ wordsIn K d
   filled-all s l e m =
-      ext-getD 0 l (wordsOf c d) (m .long ∙ sym words-long)
-      (λ j h. m .at j ∙ ap (λ (i : ℕ). wordIn c d i j) e ∙ sym (words-at j (omega (arith, m .long))))
+      ext-getD 0 l (wordsIn K d) (m .long ∙ sym words-long)
+      (λ j h. m .at j ∙ ap (λ (i : ℕ). wordIn K d i j) e ∙ sym (words-at j (omega (arith, m .long))))
+
+  -- each is a bit
+  pub bits-small : (j : ℕ) → Below 2 (pointBits K d j)
+  bits-small j =
+      map-below (λ x. bitOf (sign-digit (K .value j x)) d) 2 (λ x. omega (arith, bit-le (sign-digit (K .value j x)) d)) (K .points)
 
 -- ---- the opened card
 
-pub evaluated-is : (c : List ℕ) (s n : ℕ) (positive negative : List ℕ) → s ≡ polynomials c → n ≡ points c → Filled c 1 s positive → Filled c 2 s negative
-    → _≡_ {A = Opened} (record { refusal = 0; s = s; n = n; positive = positive; negative = negative }) (evaluated c)
-evaluated-is c s n positive negative es en m₁ m₂ =
-    let e₁ = filled-all c 1 s positive es m₁ in
-    let e₂ = filled-all c 2 s negative es m₂ in
+pub evaluated-is : {X : Type 0} (K : Contents X) (s n : ℕ) (positive negative : List ℕ) → s ≡ K .s → n ≡ length (K .points)
+    → Filled K 1 s positive → Filled K 2 s negative
+    → _≡_ {A = Opened} (record { refusal = 0; s = s; n = n; positive = positive; negative = negative }) (evaluated K)
+evaluated-is K s n positive negative es en m₁ m₂ =
+    let e₁ = filled-all K 1 s positive es m₁ in
+    let e₂ = filled-all K 2 s negative es m₂ in
     rw (e₁, e₂, es, en) refl
 
-pub opened-sound : (c : List ℕ) → refusal c ≡ 0 → opened c ≡ evaluated c
+pub opened-sound : (c : List ℕ) → refusal c ≡ 0 → opened c ≡ evaluated (contentsOf c)
 unfolding opened
 opened-sound c e = rw e refl
 
@@ -124,7 +127,8 @@ pub opened-read : (c : List ℕ) (m : ℕ) → reading c ≡ card.Refused m → 
 unfolding reading opened
 opened-read c m = go (refusal c)
   where
-    go : (k : ℕ) → unless k card.Refused (card.Sound (polynomials c) (points c)) ≡ card.Refused m → refused m ≡ unless k refused (evaluated c)
+    go : (k : ℕ) → unless k card.Refused (card.Sound (polynomials c) (points c)) ≡ card.Refused m
+        → refused m ≡ unless k refused (evaluated (contentsOf c))
     go zero e = let z : _≡_ {A = ℕ} 0 1 = cc in absurd (omega arith)
     go (suc k) e = let z : m ≡ suc k = cc in ap refused z
 
@@ -134,33 +138,47 @@ own : (m x : ℕ) (a : Answer) → (m ≡ 0 → ⊥) → of-query.Refused m ≡ 
 own zero x a h = absurd (h refl)
 own (suc m) x a h = refl
 
+-- its own number, or 3 where that is no card's
+own-card : (m x : ℕ) (a : Answer) → (m ≡ 0 → ⊥) → isAmong m cardNumbers ≡ true
+    → of-query.Refused m ≡ unless (ownNumber m ▸ x) of-query.Refused a
+own-card zero x a z h = absurd (z refl)
+own-card (suc m) x a z h = rw h refl
+
+own-other : (m x : ℕ) (a : Answer) → (m ≡ 0 → ⊥) → isAmong m cardNumbers ≡ false
+    → of-query.Refused wrongCount ≡ unless (ownNumber m ▸ x) of-query.Refused a
+own-other zero x a z h = absurd (z refl)
+own-other (suc m) x a z h = rw h refl
+
 -- the limits of s and n
-pub few : (s n : ℕ) → s < 1 → ltb s 1 || (ltb 8 s || ltb 64 n) ≡ true
+abbrev outLimits : ℕ → ℕ → Bool
+outLimits s n = ltb s 1 || (ltb mostPolynomials s || ltb mostPoints n)
+
+pub few : (s n : ℕ) → s < 1 → outLimits s n ≡ true
 few s n h = rw (lt-ltb s 1 h) refl
 
-pub many : (s n : ℕ) → 1 ≤ s → 8 < s → ltb s 1 || (ltb 8 s || ltb 64 n) ≡ true
-many s n l h = rw (le-ltb s 1 l, lt-ltb 8 s h) refl
+pub many : (s n : ℕ) → 1 ≤ s → mostPolynomials < s → outLimits s n ≡ true
+many s n l h = rw (le-ltb s 1 l, lt-ltb mostPolynomials s h) refl
 
-pub crowded : (s n : ℕ) → 1 ≤ s → s ≤ 8 → 64 < n → ltb s 1 || (ltb 8 s || ltb 64 n) ≡ true
-crowded s n l m h = rw (le-ltb s 1 l, le-ltb 8 s m, lt-ltb 64 n h) refl
+pub crowded : (s n : ℕ) → 1 ≤ s → s ≤ mostPolynomials → mostPoints < n → outLimits s n ≡ true
+crowded s n l m h = rw (le-ltb s 1 l, le-ltb mostPolynomials s m, lt-ltb mostPoints n h) refl
 
-pub limits : (s n : ℕ) → 1 ≤ s → s ≤ 8 → n ≤ 64 → ltb s 1 || (ltb 8 s || ltb 64 n) ≡ false
-limits s n l m h = rw (le-ltb s 1 l, le-ltb 8 s m, le-ltb 64 n h) refl
+pub limits : (s n : ℕ) → 1 ≤ s → s ≤ mostPolynomials → n ≤ mostPoints → outLimits s n ≡ false
+limits s n l m h = rw (le-ltb s 1 l, le-ltb mostPolynomials s m, le-ltb mostPoints n h) refl
 
 module _ (o : Opened) (α : ℕ) where
-  pub answer-foreign : 6 < o .refusal → of-query.Refused 3 ≡ answer o α
+  pub answer-foreign : (o .refusal ≡ 0 → ⊥) → isAmong (o .refusal) cardNumbers ≡ false → of-query.Refused wrongCount ≡ answer o α
   unfolding answer refusedBy
-  answer-foreign h = rw (lt-ltb 6 (o .refusal) h) refl
+  answer-foreign z h = own-other (o .refusal) _ _ z h
 
-  pub answer-own : o .refusal ≤ 6 → (o .refusal ≡ 0 → ⊥) → of-query.Refused (o .refusal) ≡ answer o α
+  pub answer-own : (o .refusal ≡ 0 → ⊥) → isAmong (o .refusal) cardNumbers ≡ true → of-query.Refused (o .refusal) ≡ answer o α
   unfolding answer refusedBy
-  answer-own l h = rw (le-ltb 6 (o .refusal) l) (own (o .refusal) _ _ h)
+  answer-own z h = own-card (o .refusal) _ _ z h
 
-  pub answer-limits : o .refusal ≡ 0 → unlimited o ≡ true → of-query.Refused 3 ≡ answer o α
+  pub answer-limits : o .refusal ≡ 0 → unlimited o ≡ true → of-query.Refused wrongCount ≡ answer o α
   unfolding answer refusedBy
   answer-limits e u = rw (e, u) refl
 
-  pub answer-product : o .refusal ≡ 0 → unlimited o ≡ false → 3 ^ o .s ≤ α → of-query.Refused 13 ≡ answer o α
+  pub answer-product : o .refusal ≡ 0 → unlimited o ≡ false → 3 ^ o .s ≤ α → of-query.Refused wrongProduct ≡ answer o α
   unfolding answer refusedBy
   answer-product e u h = rw (e, u, le-leb (3 ^ o .s) α h) refl
 
@@ -178,37 +196,70 @@ digit-bits (suc zero) h = refl
 digit-bits (suc (suc zero)) h = refl
 digit-bits (suc (suc (suc t))) h = absurd (omega arith)
 
-module _ (c : List ℕ) (h : Sound c) (k : ℕ) (g : k < points c) where
-  word-bit-is : (d j : ℕ) → j < polynomials c → bitAt (getD (wordsOf c d) j 0) k ≡ signBit c d j k
-  word-bit-is d j b =
-      ap (λ (w : ℕ). bitAt w k) (words-at c d j (omega (arith, h .s-most)) ∙ word-in c d (polynomials c) j b)
-      ∙ word-bit (signBit c d j) (λ i. omega (arith, bit-le (sign-digit (value-of c j i)) d)) (points c) k g
+-- the point at a place
+record Place {X : Type 0} (l : List X) (k : ℕ) : Type 1 where
+  x : X
+  there : {B : Type 0} (f : X → B) (b : B) → getD (map f l) k b ≡ f x
 
-  column-is : (s : ℕ) → s ≤ polynomials c → columnTo (evaluated c) s k ≡ patternTo c s k
-  unfolding columnTo patternTo
-  column-is zero b = refl
-  column-is (suc s) b =
-      rw (column-is s (omega arith), word-bit-is 1 s b, word-bit-is 2 s b, digit-bits (sign-digit (value-of c s k)) (digit-small (value-of c s k))) refl
+place : {X : Type 0} (l : List X) (k : ℕ) → k < length l → Place l k
+place [] k h = absurd (omega arith)
+place (x ∷ l) zero h = record { x = x; there = λ f b. refl }
+place (x ∷ l) (suc k) h = let p = place l k (omega arith) in record { x = p .x; there = λ f b. p .there f b }
+
+module _ {X : Type 0} (K : Contents X) (few-s : K .s ≤ mostPolynomials) where
+  module _ (k : ℕ) (p : Place (K .points) k) where
+    bit-there : (d j : ℕ) → j < K .s → bitAt (getD (wordsIn K d) j 0) k ≡ bitOf (sign-digit (K .value j (p .x))) d
+    bit-there d j b =
+        ap (λ (w : ℕ). bitAt w k) (words-at K d j (omega arith) ∙ word-in K d (K .s) j b)
+        ∙ word-bit (pointBits K d j) (bits-small K d j) k
+        ∙ p .there (λ x. bitOf (sign-digit (K .value j x)) d) 0
+
+    column-is : (s : ℕ) → s ≤ K .s → columnTo (evaluated K) s k ≡ patternTo (valuesAt K (p .x)) s
+    unfolding columnTo patternTo
+    column-is zero b = refl
+    column-is (suc s) b =
+        let v = K .value s (p .x) in
+        rw (column-is s (omega arith), bit-there 1 s b, bit-there 2 s b, digit-bits (sign-digit v) (digit-small v)) refl
+
+  pub summed-is : (α : ℕ) → summed (evaluated K) α ≡ queryIn K α
+  unfolding summed queryIn
+  summed-is α =
+      sumTo-ext _ (λ k. getD L k (pos 0)) (length (K .points)) at
+      ∙ ap (sumTo (λ k. getD L k (pos 0))) (sym (length-map (K .points) sign-there))
+      ∙ sumTo-list L
+    where
+      sign-there : X → ℤ
+      sign-there x = sgnℤ (productValue K α x)
+
+      L : List ℤ
+      L = map sign-there (K .points)
+
+      at : (k : ℕ) → k < length (K .points) → sign (K .s) α (columnTo (evaluated K) (K .s) k) ≡ getD L k (pos 0)
+      at k g =
+          let p = place (K .points) k g in
+          ap (sign (K .s) α) (column-is k p (K .s) (omega arith))
+          ∙ sym (sgn-product (valuesAt K (p .x)) (K .s) α)
+          ∙ sym (p .there sign-there (pos 0))
 
 module _ (c : List ℕ) (α : ℕ) where
-  summed-is : Sound c → summed (evaluated c) α ≡ queryOf c α
-  unfolding summed queryOf
-  summed-is h = sumTo-ext _ _ (points c) at
-    where
-      at : (k : ℕ) → k < points c → sign (polynomials c) α (columnTo (evaluated c) (polynomials c) k) ≡ sgnℤ (productAt c α k)
-      at k g = ap (sign (polynomials c) α) (column-is c h k g (polynomials c) (omega arith)) ∙ sym (sgn-product c (polynomials c) α k)
-
-  answer-sound : Sound c → answer (evaluated c) α ≡ queryAnswer c α
+  answer-sound : Sound c → answer (evaluated (contentsOf c)) α ≡ queryAnswer c α
   unfolding queryAnswer
   answer-sound h =
-      let u = limits (polynomials c) (points c) (h .s-least) (h .s-most) (h .n-most) in
+      let K = contentsOf c in
+      let u = limits (polynomials c) (length (K .points)) (h .s-least) (h .s-most) (omega (arith, points-long c, h .n-most)) in
       let e = unrefused c h in
-      ⊎-elim (λ b. rw (e, lt-leb (3 ^ polynomials c) α b) (sym (answer-number (evaluated c) α refl u b) ∙ ap of-query.Number (summed-is h)))
-      (λ b. rw (e, le-leb (3 ^ polynomials c) α b) (sym (answer-product (evaluated c) α refl u b))) (below-or α (3 ^ polynomials c))
+      ⊎-elim (λ b. rw (e, lt-leb (3 ^ polynomials c) α b)
+      (sym (answer-number (evaluated K) α refl u b) ∙ ap of-query.Number (summed-is K (h .s-most) α)))
+      (λ b. rw (e, le-leb (3 ^ polynomials c) α b) (sym (answer-product (evaluated K) α refl u b))) (below-or α (3 ^ polynomials c))
+
+  -- a refused card's number is a card's
+  refused-among : (refusal c ≡ 0 → ⊥) → isAmong (refusal c) cardNumbers ≡ true
+  unfolding isAmong
+  refused-among h = rw (ne-eqb (refusal c) 0 h) at (refusal-listed c .stands)
 
   answer-refused : (refusal c ≡ 0 → ⊥) → answer (refused (refusal c)) α ≡ queryAnswer c α
   unfolding queryAnswer
-  answer-refused h = sym (answer-own (refused (refusal c)) α (refusal-most c) h) ∙ own (refusal c) _ _ h
+  answer-refused h = sym (answer-own (refused (refusal c)) α h (refused-among h)) ∙ own (refusal c) _ _ h
 
   pub answer-opened : answer (opened c) α ≡ queryAnswer c α
   answer-opened =

@@ -1,16 +1,17 @@
--- Words as rows of bits: the bits of what &, | and ^ give, of the first n bits set, and of a word made bit by bit, from the top; and how many bits are set.
--- Assumes nothing.
+-- Words as rows of bits: the bits of what &, | and ^ give, of the first n bits set, and of the word of a list of bits, made from the top;
+-- and how many bits are set.
 use mathlib.Core.Path.{_≡_, refl, sym, ap, ap₂, subst, _∙_}
-use mathlib.Core.Logic.{⊎-elim}
+use mathlib.Core.List.{List, [], _∷_}
 use Prim.Native.Nat.{ℕ, zero, suc, _+_, _*_, _-_, _/_, _%_, _^_, _<_, _≤_, min, max}
 use native.Mathlib.Omega.{arith}
-use native.Mathlib.Nat.{pow-suc, pow-succ', add-mul, mul-assoc, mul-comm, mul-left-comm, zero-add, zero-mul, zero-div, mod-lt, div-eq-of-lt, div-lt-iff-lt-mul, div-div-eq-div-mul, add-mul-div-right, add-mul-mod-self-right, mod-eq-of-lt, le-mul-of-pos-right}
+use native.Mathlib.Nat.{pow-suc, pow-succ', zero-div, mod-lt, div-lt-iff-lt-mul, div-div-eq-div-mul}
 use lib.Arith.{digits-mod, lt-one}
 use lib.Bits.{bitAnd, bitOr, bitXor, differ, and-step, or-step, xor-step, and-shr, or-shr, xor-shr}
 use lib.Count.{ones, ones-step}
-use lib.Pow.{pow-pos, pow-add, pow-mono, ones-split, high, ones-lt}
-use Rattle.integers.proofs.Tests.{eq-cases}
-use Rattle.signs.specs.Lists.{total}
+use lib.ListN.{length, getD, drop, length-drop, drop-of-length-le}
+use lib.Pow.{pow-pos, pow-mono, ones-split, high, ones-lt}
+use lib.Seq.{drop-cons}
+use Rattle.signs.specs.Lists.{total, Below}
 use Rattle.query.specs.Opened.{bitAt, wordOf}
 
 -- ---- one bit
@@ -64,69 +65,49 @@ pub bit-half : (w k : ℕ) → bitAt (w / 2) k ≡ bitAt w (suc k)
 unfolding bitAt
 bit-half w k = ap (λ (x : ℕ). x % 2) (div-div-eq-div-mul w 2 (2 ^ k) ∙ ap (λ (x : ℕ). w / x) (sym (pow-succ' 2 k)))
 
--- ---- a word made bit by bit
-
--- a bit set above leaves those below
-bit-above : (w b m k : ℕ) → bitAt (w + b * 2 ^ (suc m + k)) k ≡ bitAt w k
+lowest : (w : ℕ) → w % 2 ≡ bitAt w 0
 unfolding bitAt
-bit-above w b m k =
-    let p : b * 2 ^ (suc m + k) ≡ b * 2 ^ m * 2 * 2 ^ k = rw (pow-add 2 (suc m) k, pow-suc 2 m) (simp (mul-assoc, mul-comm, mul-left-comm)) in
-    rw (p, add-mul-div-right w (b * 2 ^ m * 2) (pow-pos k)) (add-mul-mod-self-right (w / 2 ^ k) (b * 2 ^ m) 2)
+lowest w = omega arith
 
-bit-low : (w b n k : ℕ) → k < n → bitAt (w + b * 2 ^ n) k ≡ bitAt w k
-bit-low w b n k h =
-    let e : n ≡ suc (n - suc k) + k = omega arith in subst (λ (i : ℕ). bitAt (w + b * 2 ^ i) k ≡ bitAt w k) (sym e) (bit-above w b (n - suc k) k)
+-- ---- the word of a list of bits
 
-bit-top : (w b n : ℕ) → w < 2 ^ n → b < 2 → bitAt (w + b * 2 ^ n) n ≡ b
-unfolding bitAt
-bit-top w b n h l = rw (add-mul-div-right w b (pow-pos n), div-eq-of-lt h, zero-add b) (mod-eq-of-lt l)
+pub word-lt : (l : List ℕ) → Below 2 l → wordOf l < 2 ^ length l
+unfolding wordOf Below
+word-lt [] h = omega arith
+word-lt (b ∷ l) h = omega (arith, h .0, word-lt l (h .1), pow-suc 2 (length l))
 
-module _ (f : ℕ → ℕ) (small : (k : ℕ) → f k < 2) where
-  pub word-lt : (n : ℕ) → wordOf f n < 2 ^ n
+pub word-bit : (l : List ℕ) → Below 2 l → (k : ℕ) → bitAt (wordOf l) k ≡ getD l k 0
+unfolding wordOf Below
+word-bit [] h k = bit-none k
+word-bit (b ∷ l) h zero = sym (lowest (2 * wordOf l + b)) ∙ omega (arith, h .0)
+word-bit (b ∷ l) h (suc k) =
+    let e : (2 * wordOf l + b) / 2 ≡ wordOf l = omega (arith, h .0) in
+    sym (bit-half (2 * wordOf l + b) k) ∙ ap (λ (w : ℕ). bitAt w k) e ∙ word-bit l (h .1) k
+
+below-drop : (n : ℕ) (l : List ℕ) (k : ℕ) → Below n l → Below n (drop k l)
+unfolding Below
+below-drop n l zero h = h
+below-drop n [] (suc k) h = tt
+below-drop n (x ∷ l) (suc k) h = below-drop n l k (h .1)
+
+-- the loop that makes the word from the top: x holds the bits from k on
+module _ (l : List ℕ) where
+  pub word-none : (n : ℕ) → length l ≤ n → 0 ≡ wordOf (drop n l)
   unfolding wordOf
-  word-lt zero = omega arith
-  word-lt (suc n) = go (f n) (small n) (word-lt n)
-    where
-      go : (b : ℕ) → b < 2 → wordOf f n < 2 ^ n → wordOf f n + b * 2 ^ n < 2 ^ suc n
-      go zero l h = omega (arith, pow-suc 2 n)
-      go (suc zero) l h = omega (arith, pow-suc 2 n)
-      go (suc (suc b)) l h = absurd (omega arith)
+  word-none n h = rw (drop-of-length-le l h) refl
 
-  pub word-bit : (n k : ℕ) → k < n → bitAt (wordOf f n) k ≡ f k
+  pub word-turn : (k x b : ℕ) → 0 < k → k ≤ length l → b ≡ getD l (k - 1) 0 → x ≡ wordOf (drop k l) → 2 * x + b ≡ wordOf (drop (k - 1) l)
   unfolding wordOf
-  word-bit zero k h = absurd (omega arith)
-  word-bit (suc n) k h =
-      ⊎-elim (λ w. rw (w .0) (bit-top (wordOf f n) (f n) n (word-lt n) (small n)))
-      (λ w. let g : k < n = omega (arith, w .0) in bit-low (wordOf f n) (f n) n k g ∙ word-bit n k g) (eq-cases k n)
-
-  -- one turn of the loop that makes the word from the top: x holds the bits from k on
-  pub word-turn : (n k x b : ℕ) → 0 < k → b ≡ f (k - 1) → x * 2 ^ k + wordOf f k ≡ wordOf f n
-      → (2 * x + b) * 2 ^ (k - 1) + wordOf f (k - 1) ≡ wordOf f n
-  unfolding wordOf
-  word-turn n k x b h eb e =
-      let m = k - 1 in
-      let ek : k ≡ suc m = omega arith in
-      let e′ : x * 2 ^ suc m + wordOf f (suc m) ≡ wordOf f n = subst (λ (i : ℕ). x * 2 ^ i + wordOf f i ≡ wordOf f n) ek e in
-      rw eb (omega (arith, shifted x (f m) m, e′))
-    where
-      shifted : (x b m : ℕ) → (2 * x + b) * 2 ^ m ≡ x * 2 ^ suc m + b * 2 ^ m
-      shifted x b m = rw (add-mul, pow-suc 2 m) (ap (λ (y : ℕ). y + b * 2 ^ m) (simp (mul-assoc, mul-comm, mul-left-comm)))
+  word-turn k x b h g eb e =
+      let ek : k ≡ suc (k - 1) = omega arith in
+      let e′ : x ≡ wordOf (drop (suc (k - 1)) l) = subst (λ (i : ℕ). x ≡ wordOf (drop i l)) ek e in
+      rw (drop-cons l (k - 1) 0 (omega arith), eb, e′) refl
 
   -- for which there is room
-  pub word-room : (n k x : ℕ) → 0 < k → x * 2 ^ k + wordOf f k ≡ wordOf f n → n ≤ 64 → 2 * x + 1 < 2 ^ 64
-  word-room n k x h e g =
-      let y = 2 * x + f (k - 1) in
-      omega (arith, word-turn n k x (f (k - 1)) h refl e, word-lt n, pow-mono g, le-mul-of-pos-right y (pow-pos (k - 1)))
-
-  -- before the first turn, and after the last
-  pub word-none : (n m : ℕ) → n ≡ m → 0 * 2 ^ n + wordOf f n ≡ wordOf f m
-  word-none n m e = rw e (simp (zero-mul, zero-add))
-
-  pub word-all : (n k x : ℕ) → k ≡ 0 → x * 2 ^ k + wordOf f k ≡ wordOf f n → x ≡ wordOf f n
-  unfolding wordOf
-  word-all n k x e h =
-      let h′ : x * 2 ^ 0 + wordOf f 0 ≡ wordOf f n = subst (λ (i : ℕ). x * 2 ^ i + wordOf f i ≡ wordOf f n) e h in
-      omega arith
+  pub word-room : Below 2 l → (k x : ℕ) → 0 < k → x ≡ wordOf (drop k l) → length l ≤ 64 → 2 * x + 1 < 2 ^ 64
+  word-room s k x h e g =
+      let d = length-drop k l in
+      omega (arith, e, word-lt (drop k l) (below-drop 2 l k s), pow-mono {i = length (drop k l)} {j = 63} (omega (arith, d)))
 
 -- ---- how many bits are set
 
@@ -139,10 +120,6 @@ total-first : (f : ℕ → ℕ) (n : ℕ) → total f (suc n) ≡ f 0 + total (�
 unfolding total
 total-first f zero = omega arith
 total-first f (suc n) = omega (arith, total-first f n)
-
-lowest : (w : ℕ) → w % 2 ≡ bitAt w 0
-unfolding bitAt
-lowest w = omega arith
 
 pub ones-bits : (n w : ℕ) → w < 2 ^ n → ones w ≡ total (bitAt w) n
 unfolding total ones

@@ -9,30 +9,22 @@ ghost use lib.Bits.{bitAnd, bitOr, bitXor};
 ghost use lib.Count.{ones};
 ghost use lib.Dec.{eqb};
 ghost use lib.IntN.{pos, _-ℤ_};
+ghost use Rattle.refusals.specs.Limits.{mostPolynomials, mostPoints};
 ghost use Rattle.layout.specs.Format.{polynomials, points, points-at};
+ghost use Rattle.layout.specs.Contents.{contentsOf};
 ghost use Rattle.card.specs.Sound.{Sound};
 ghost use Rattle.query.specs.Opened.{signWord, evaluated, opened, summed, answer};
 ghost use Rattle.query.specs.Query.{queryAnswer};
 use card::Card;
-use card::numbers;
 use layout::values;
+use refusals::MOST_POINTS;
+use refusals::MOST_POLYNOMIALS;
+use refusals::NONE;
+use refusals::WRONG_COUNT;
+use refusals::WRONG_PRODUCT;
 use signs::Product;
 use signs::digit;
 use signs::power;
-
-// The numbers that refuse (document 01, "Cause, and what the caller gets"): those of `card`, as wide as a run's, and that of a product.
-const NONE: u16 = numbers::NONE as u16; // not refused
-
-const COUNT: u16 = numbers::COUNT as u16; // s or n is outside its limits
-
-const POINT: u16 = numbers::POINT as u16; // the last of a card's numbers
-
-pub const PRODUCT: u16 = 13; // the product number is above 3^s − 1
-
-// The limits of a card.
-const MOST_POLYNOMIALS: usize = numbers::MOST_POLYNOMIALS as usize;
-
-const MOST_POINTS: usize = numbers::MOST_POINTS as usize;
 
 // Every bit of a word.
 const EVERY: u64 = 0xffff_ffff_ffff_ffff;
@@ -63,7 +55,7 @@ struct Signs {
 // The signs of polynomial j at the n points, which begin at byte from, the last point first.
 fn mark(card: &[u8], j: usize, from: usize, n: usize) -> Signs
     requires { ⌜ Sound (now card) × (j < polynomials (now card)) × (from ≡ points-at (now card)) × (n ≡ points (now card)) ⌝ }
-    ensures { λ r. ⌜ (r .positive ≡ signWord (now (card .entry)) 1 j) × (r .negative ≡ signWord (now (card .entry)) 2 j) ⌝ }
+    ensures { λ r. ⌜ (r .positive ≡ signWord (contentsOf (now (card .entry))) 1 j) × (r .negative ≡ signWord (contentsOf (now (card .entry))) 2 j) ⌝ }
 {
     let p = values::polynomial(card, layout::offset(card, j));
     let mut positive: u64 = 0;
@@ -71,7 +63,7 @@ fn mark(card: &[u8], j: usize, from: usize, n: usize) -> Signs
     let mut k = n;
     while 0 < k {
         k -= 1;
-        let d = values::sign(&p, layout::point(card, from, k));
+        let d = polynomials::sign(&p, layout::point(card, from, k));
         positive = 2 * positive + signs::bit(d, 1) as u64;
         negative = 2 * negative + signs::bit(d, 2) as u64;
     }
@@ -84,7 +76,7 @@ fn mark(card: &[u8], j: usize, from: usize, n: usize) -> Signs
 // A sound card of s polynomials and n points, opened.
 fn evaluate(card: &[u8], s: usize, n: usize) -> Opened
     requires { ⌜ Sound (now card) × (s ≡ polynomials (now card)) × (n ≡ points (now card)) ⌝ }
-    ensures { λ r. ⌜ r ≡ evaluated (now (card .entry)) ⌝ }
+    ensures { λ r. ⌜ r ≡ evaluated (contentsOf (now (card .entry))) ⌝ }
 {
     let from = layout::offset(card, s);
     let mut positive = [0u64; MOST_POLYNOMIALS];
@@ -113,7 +105,7 @@ pub fn open(card: &[u8]) -> Opened
     match card::read(card) {
         Card::Sound { s, n } => evaluate(card, s, n),
         Card::Refused(m) => Opened {
-            refusal: m as u16,
+            refusal: m,
             s: 0,
             n: 0,
             positive: [0u64; MOST_POLYNOMIALS],
@@ -124,7 +116,7 @@ pub fn open(card: &[u8]) -> Opened
 
 // The first n points, one bit each.
 fn first(n: usize) -> u64
-    requires { ⌜ n ≤ 64 ⌝ }
+    requires { ⌜ n ≤ mostPoints ⌝ }
     ensures { λ r. ⌜ r ≡ 2 ^ n - 1 ⌝ }
 {
     if n < MOST_POINTS {
@@ -162,7 +154,7 @@ fn balance(left: u64, odd: u64) -> i64
 
 // The sum of the signs of the product a over the points of an opened card: all points at once, polynomial by polynomial, the last one first.
 fn sum(card: Opened, a: u16) -> i64
-    requires { ⌜ (card .s ≤ 8) × (card .n ≤ 64) × (a < 3 ^ card .s) ⌝ }
+    requires { ⌜ (card .s ≤ mostPolynomials) × (card .n ≤ mostPoints) × (a < 3 ^ card .s) ⌝ }
     ensures { λ r. ⌜ r ≡ summed card a ⌝ }
 {
     let mut left = first(card.n);
@@ -185,23 +177,23 @@ fn sum(card: Opened, a: u16) -> i64
 pub fn ask(card: Opened, a: Product) -> Answer
     ensures { λ r. ⌜ r ≡ answer card (a .0) ⌝ }
 {
-    if POINT < card.refusal {
-        return Answer::Refused(COUNT);
-    }
     if card.refusal != NONE {
-        return Answer::Refused(card.refusal);
+        if refusals::is_card_number(card.refusal) {
+            return Answer::Refused(card.refusal);
+        }
+        return Answer::Refused(WRONG_COUNT);
     }
     if card.s < 1 {
-        return Answer::Refused(COUNT);
+        return Answer::Refused(WRONG_COUNT);
     }
     if MOST_POLYNOMIALS < card.s {
-        return Answer::Refused(COUNT);
+        return Answer::Refused(WRONG_COUNT);
     }
     if MOST_POINTS < card.n {
-        return Answer::Refused(COUNT);
+        return Answer::Refused(WRONG_COUNT);
     }
     if power(card.s) <= a.0 {
-        return Answer::Refused(PRODUCT);
+        return Answer::Refused(WRONG_PRODUCT);
     }
     Answer::Number(sum(card, a.0))
 }

@@ -18,9 +18,11 @@
 --   cardNumbers     == the numbers that refuse a card
 --   closingNumbers  == the numbers that close a run
 --   isAmong m l     == the test that the number m stands in the list l
+--   Among l m       == the number m stands in the list l
 --   m when t        == the cause t: the number m where t holds, and 0, no refusal, where it does not
 --   a ▸ b           == first a, then b: a, unless it is 0; then b
 --   unless m f a    == a where the number m is 0, and f m where it refuses
+use mathlib.Core.Path.{_≡_}
 use mathlib.Core.Bool.{Bool, true, false, _||_}
 use mathlib.Core.List.{List, [], _∷_}
 use Prim.Native.Nat.{ℕ, zero, suc}
@@ -82,6 +84,9 @@ closingNumbers = badFirst ∷ badLater ∷ noCounts ∷ []
 unfoldable pub isAmong : ℕ → List ℕ → Bool
 isAmong m [] = false
 isAmong m (k ∷ l) = eqb m k || isAmong m l
+
+pub record Among (l : List ℕ) (m : ℕ) : Type 0 where
+  pub stands : isAmong m l ≡ true
 
 -- ---- causes in order
 

@@ -1,6 +1,6 @@
 -- What the loops of this crate keep from turn to turn, and what they leave. Assumes nothing.
 use Prim.Native.Nat.{ℕ, zero, suc, _+_, _^_, _≤_, _<_}
-use native.Mathlib.Nat.{add-zero, le-refl, pow-le-pow-right}
+use native.Mathlib.Nat.{add-zero, le-refl}
 use native.Mathlib.Numerals.{add-one}
 use native.Mathlib.Omega.{arith}
 use mathlib.Core.Path.{_≡_, refl, sym, ap, ap₂, _∙_}
@@ -23,7 +23,8 @@ use Rattle.adapted.proofs.Stores.{take-sets}
 use Rattle.signs.proofs.Digitwise.{sign-bits}
 use Rattle.signs.proofs.Positions.{below-at}
 use Rattle.moments.specs.Moments.{putOne}
-use Rattle.moments.proofs.Laws.{each-more, within-of}
+use Rattle.integers.proofs.Sums.{within-of}
+use Rattle.integers.proofs.Stores.{each-more}
 use Rattle.remains.specs.Remains.{remains, other0, bitSum, digitSum, Rests, Gathered}
 use Rattle.remains.proofs.Sums.{sum-snoc, sum-none, sum-next, weighted-next, remains-is}
 
@@ -72,7 +73,7 @@ gathering-next i l v o t o′ t′ u u′ lo lt lu n n′ j G h e b w ho ht hu e
           long-t = rw (nt, length-set) (G .long-t);
           long-u = rw (nu, length-set) (G .long-u);
           sums = λ α a. rw (nn, no, nt, nu, add-one j, take-suc-set o n (places 1 i (getD l j 0)) (omega (arith, G .few, G .long-o)), take-suc-set t n (places 2 i (getD l j 0)) (omega (arith, G .few, G .long-t)), take-suc-set u n (getD v j (pos 0)) (omega (arith, G .few, G .long-u))) (with-x α a);
-          small = rw (nn, nu) (λ m r. rw add-one at (each-more (λ _ z. natAbs z ≤ 256) u n (getD v j (pos 0)) (omega (arith, G .few, G .long-u)) (w .at j) (G .small)) m r);
+          small = rw (nn, nu) (λ m r. rw add-one at (each-more (pos 0) (λ _ z. natAbs z ≤ 256) u n (getD v j (pos 0)) (omega (arith, G .few, G .long-u)) (w .at j) (G .small)) m r);
         }
       where
         with-x : (α : ℕ) → α < 3 ^ i
@@ -169,9 +170,6 @@ adapted-list i l a a′ r b e f = f ∙ rw (shift-zero (adapted i l)) (sets-whol
 
 pub adapted-small : (i : ℕ) (l : List ℕ) → Below (3 ^ i) (adapted i l)
 adapted-small i l = below-all (3 ^ i) (adapted i l) (λ q h. adapted-below i q l h)
-
-pub pow-eight : (i : ℕ) → i ≤ 8 → 3 ^ i ≤ 6561
-pow-eight i h = pow-le-pow-right (omega arith) h
 
 -- ---- left_over
 

@@ -14,7 +14,7 @@ use lib.ListN.{length, getD, drop}
 use lib.Seq.{drop-cons}
 use mir.Syntax.{w16}
 use mir.Val.{SFits, toZ, ofZ}
-use Rattle.moments.proofs.Laws.{back}
+use Rattle.integers.proofs.I16.{back}
 use Rattle.integers.proofs.Abs.{abs-zero}
 use Rattle.signs.specs.Signs.{sign, weighted}
 use Rattle.signs.specs.Bits.{signBits}

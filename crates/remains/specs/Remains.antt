@@ -1,4 +1,4 @@
--- What remains of the numbers asked, where some of the patterns' numbers are known. Assumes nothing: these are definitions, of inner functions.
+-- What remains of the numbers asked, where some of the patterns' numbers are known: definitions of inner functions.
 --
 --   remains i l v A x      == the numbers x asked of the products A of i polynomials, less their queries where the patterns l count v
 --   other0 x               == the test that x is not 0
@@ -15,6 +15,7 @@ use lib.IntN.{ℤ, pos, natAbs, _+ℤ_, _-ℤ_, _*ℤ_}
 use lib.ListN.{length, getD, take}
 use Rattle.signs.specs.Signs.{weighted}
 use Rattle.signs.specs.Bits.{places, signBits}
+use Rattle.moments.specs.Moments.{mostMoment}
 
 unfoldable pub remains : ℕ → List ℕ → List ℤ → List ℕ → List ℤ → List ℤ
 remains i l v [] x = []
@@ -39,4 +40,4 @@ pub record Rests (i : ℕ) (a o t : List ℕ) (v x r : List ℤ) : Type 0 where
 pub record Gathered (i : ℕ) (l : List ℕ) (v : List ℤ) (n : ℕ) (o t : List ℕ) (u : List ℤ) : Type 0 where
   pub few : n ≤ length l
   pub sums : (α : ℕ) → α < 3 ^ i → digitSum i α (take n o) (take n t) (take n u) ≡ weighted i l v α
-  pub small : (j : ℕ) → j < n → natAbs (getD u j (pos 0)) ≤ 256
+  pub small : (j : ℕ) → j < n → natAbs (getD u j (pos 0)) ≤ mostMoment

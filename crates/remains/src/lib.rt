@@ -2,31 +2,25 @@
 // The functions are for the solver, whose calls show what they require; the definitions are in specs/.
 ghost use mathlib.Core.Path.{_≡_};
 ghost use mathlib.Core.Bool.{cond};
-ghost use Prim.Native.Nat.{_+_, _^_, _≤_, _<_};
-ghost use lib.IntN.{natAbs, _*ℤ_};
+ghost use Prim.Native.Nat.{_+_, _*_, _^_, _≤_, _<_};
+ghost use lib.IntN.{natAbs};
 ghost use lib.ListN.{length};
+ghost use Rattle.refusals.specs.Limits.{mostPolynomials, mostPoints};
 ghost use Rattle.integers.specs.Sums.{Within};
 ghost use Rattle.signs.specs.Lists.{Below, Rising};
 ghost use Rattle.signs.specs.Bits.{places};
 ghost use Rattle.signs.specs.Adapted.{adapted as adaptedOf};
-ghost use Rattle.moments.specs.Moments.{putOne};
+ghost use Rattle.moments.specs.Moments.{mostMoment, putOne};
 ghost use Rattle.remains.specs.Remains.{other0, bitSum, Rests, Gathered, remains};
 use adapted::adapted;
+use integers::minus;
+use integers::plus;
+use integers::scale;
 use moments::copy;
-use moments::minus;
-use moments::narrow;
-use moments::plus;
+use refusals::MOST_POINTS;
 use signs::Places;
 use signs::digits_of;
 use signs::sign_by;
-
-// A sign times a number.
-fn scale(s: i64, x: i16) -> i16
-    requires { ⌜ (natAbs s ≤ 1) × (natAbs x ≤ 256) ⌝ }
-    ensures { λ r. ⌜ r ≡ s *ℤ x ⌝ }
-{
-    narrow(s) * x
-}
 
 // Writes the digits of q to ones and twos and its number x to u, each at n, where x is not 0. Returns where the next one goes.
 fn gather_one(
@@ -38,7 +32,7 @@ fn gather_one(
     u: &mut [i16],
     n: usize,
 ) -> usize
-    requires { ⌜ (i ≤ 8) × (q < 3 ^ i) × (n < length (now ones)) × (n < length (now twos)) × (n < length (now u)) ⌝ }
+    requires { ⌜ (i ≤ mostPolynomials) × (q < 3 ^ i) × (n < length (now ones)) × (n < length (now twos)) × (n < length (now u)) ⌝ }
     ensures { λ r. ⌜ r ≡ n + cond (other0 x) 1 0 ⌝ }
     ensures { λ _. ⌜ now (ones .exit) ≡ putOne (other0 x) (now (ones .entry)) n (places 1 i q) ⌝ }
     ensures { λ _. ⌜ now (twos .exit) ≡ putOne (other0 x) (now (twos .entry)) n (places 2 i q) ⌝ }
@@ -64,7 +58,7 @@ fn gather(
     twos: &mut [u32],
     u: &mut [i16],
 ) -> usize
-    requires { ⌜ (i ≤ 8) × Below (3 ^ i) (now l) × (length (now v) ≡ length (now l)) × Within 256 (now v) ⌝ }
+    requires { ⌜ (i ≤ mostPolynomials) × Below (3 ^ i) (now l) × (length (now v) ≡ length (now l)) × Within mostMoment (now v) ⌝ }
     requires { ⌜ (length (now l) ≤ length (now ones)) × (length (now l) ≤ length (now twos)) × (length (now l) ≤ length (now u)) ⌝ }
     ensures { λ r. ⌜ Gathered i (now (l .entry)) (now (v .entry)) r (now (ones .exit)) (now (twos .exit)) (now (u .exit)) ⌝ }
 {
@@ -80,8 +74,8 @@ fn gather(
 
 // The query of the product with the digits a where the patterns with the digits ones and twos count as v says.
 fn query(a: Places, ones: &[u32], twos: &[u32], v: &[i16]) -> i16
-    requires { ⌜ (length (now ones) ≡ length (now v)) × (length (now twos) ≡ length (now v)) × (length (now v) ≤ 64) × Within 256 (now v) ⌝ }
-    ensures { λ r. ⌜ (r ≡ bitSum (a .ones) (a .twos) (now (ones .entry)) (now (twos .entry)) (now (v .entry))) × (natAbs r ≤ 16384) ⌝ }
+    requires { ⌜ (length (now ones) ≡ length (now v)) × (length (now twos) ≡ length (now v)) × (length (now v) ≤ mostPoints) × Within mostMoment (now v) ⌝ }
+    ensures { λ r. ⌜ (r ≡ bitSum (a .ones) (a .twos) (now (ones .entry)) (now (twos .entry)) (now (v .entry))) × (natAbs r ≤ mostPoints * mostMoment) ⌝ }
 {
     let mut t: i16 = 0;
     let mut j = 0;
@@ -102,8 +96,8 @@ fn query(a: Places, ones: &[u32], twos: &[u32], v: &[i16]) -> i16
 
 // Writes to r the numbers x asked of the products a of i polynomials, less their queries where the patterns count as v says.
 fn rests(x: &[i16], a: &[u16], i: usize, ones: &[u32], twos: &[u32], v: &[i16], r: &mut [i16])
-    requires { ⌜ (i ≤ 8) × Below (3 ^ i) (now a) × (length (now x) ≡ length (now a)) × (length (now r) ≡ length (now a)) × Within 64 (now x) ⌝ }
-    requires { ⌜ (length (now ones) ≡ length (now v)) × (length (now twos) ≡ length (now v)) × (length (now v) ≤ 64) × Within 256 (now v) ⌝ }
+    requires { ⌜ (i ≤ mostPolynomials) × Below (3 ^ i) (now a) × (length (now x) ≡ length (now a)) × (length (now r) ≡ length (now a)) × Within mostPoints (now x) ⌝ }
+    requires { ⌜ (length (now ones) ≡ length (now v)) × (length (now twos) ≡ length (now v)) × (length (now v) ≤ mostPoints) × Within mostMoment (now v) ⌝ }
     ensures { λ _. ⌜ Rests i (now (a .entry)) (now (ones .entry)) (now (twos .entry)) (now (v .entry)) (now (x .entry)) (now (r .exit)) ⌝ }
 {
     let mut k = 0;
@@ -127,9 +121,9 @@ fn remain(
     a: &mut [u16],
     r: &mut [i16],
 )
-    requires { ⌜ (i ≤ 8) × Rising (now l) × Below (3 ^ i) (now l) × (length (now l) ≤ 64) ⌝ }
-    requires { ⌜ (length (now x) ≡ length (now l)) × (length (now a) ≡ length (now l)) × (length (now r) ≡ length (now l)) × Within 64 (now x) ⌝ }
-    requires { ⌜ (length (now ones) ≡ length (now v)) × (length (now twos) ≡ length (now v)) × (length (now v) ≤ 64) × Within 256 (now v) ⌝ }
+    requires { ⌜ (i ≤ mostPolynomials) × Rising (now l) × Below (3 ^ i) (now l) × (length (now l) ≤ mostPoints) ⌝ }
+    requires { ⌜ (length (now x) ≡ length (now l)) × (length (now a) ≡ length (now l)) × (length (now r) ≡ length (now l)) × Within mostPoints (now x) ⌝ }
+    requires { ⌜ (length (now ones) ≡ length (now v)) × (length (now twos) ≡ length (now v)) × (length (now v) ≤ mostPoints) × Within mostMoment (now v) ⌝ }
     ensures { λ _. ⌜ Rests i (adaptedOf i (now (l .entry))) (now (ones .entry)) (now (twos .entry)) (now (v .entry)) (now (x .entry)) (now (r .exit)) ⌝ }
 {
     if v.len() == 0 {
@@ -142,16 +136,16 @@ fn remain(
 
 // Writes to r what remains of the numbers x, asked of the adapted list of l, where the patterns low, of i polynomials too, have the numbers v.
 pub fn left_over(l: &[u16], low: &[u16], i: usize, x: &[i16], v: &[i16], r: &mut [i16])
-    requires { ⌜ (i ≤ 8) × Rising (now l) × Below (3 ^ i) (now l) × (length (now l) ≤ 64) ⌝ }
-    requires { ⌜ Below (3 ^ i) (now low) × (length (now low) ≤ 64) × (length (now v) ≡ length (now low)) × Within 256 (now v) ⌝ }
-    requires { ⌜ (length (now x) ≡ length (now l)) × (length (now r) ≡ length (now l)) × Within 64 (now x) ⌝ }
+    requires { ⌜ (i ≤ mostPolynomials) × Rising (now l) × Below (3 ^ i) (now l) × (length (now l) ≤ mostPoints) ⌝ }
+    requires { ⌜ Below (3 ^ i) (now low) × (length (now low) ≤ mostPoints) × (length (now v) ≡ length (now low)) × Within mostMoment (now v) ⌝ }
+    requires { ⌜ (length (now x) ≡ length (now l)) × (length (now r) ≡ length (now l)) × Within mostPoints (now x) ⌝ }
     ensures { λ _. ⌜ now (r .exit) ≡ remains i (now (low .entry)) (now (v .entry)) (adaptedOf i (now (l .entry))) (now (x .entry)) ⌝ }
 {
     let n = l.len();
-    let mut ones = [0u32; 64];
-    let mut twos = [0u32; 64];
-    let mut u = [0i16; 64];
-    let mut a = [0u16; 64];
+    let mut ones = [0u32; MOST_POINTS];
+    let mut twos = [0u32; MOST_POINTS];
+    let mut u = [0i16; MOST_POINTS];
+    let mut a = [0u16; MOST_POINTS];
     left_with(
         l,
         low,
@@ -179,9 +173,9 @@ fn left_with(
     a: &mut [u16],
     r: &mut [i16],
 )
-    requires { ⌜ (i ≤ 8) × Rising (now l) × Below (3 ^ i) (now l) × (length (now l) ≤ 64) ⌝ }
-    requires { ⌜ Below (3 ^ i) (now low) × (length (now low) ≤ 64) × (length (now v) ≡ length (now low)) × Within 256 (now v) ⌝ }
-    requires { ⌜ (length (now x) ≡ length (now l)) × (length (now r) ≡ length (now l)) × Within 64 (now x) ⌝ }
+    requires { ⌜ (i ≤ mostPolynomials) × Rising (now l) × Below (3 ^ i) (now l) × (length (now l) ≤ mostPoints) ⌝ }
+    requires { ⌜ Below (3 ^ i) (now low) × (length (now low) ≤ mostPoints) × (length (now v) ≡ length (now low)) × Within mostMoment (now v) ⌝ }
+    requires { ⌜ (length (now x) ≡ length (now l)) × (length (now r) ≡ length (now l)) × Within mostPoints (now x) ⌝ }
     requires { ⌜ (length (now low) ≤ length (now ones)) × (length (now low) ≤ length (now twos)) × (length (now low) ≤ length (now u)) × (length (now a) ≡ length (now l)) ⌝ }
     ensures { λ _. ⌜ now (r .exit) ≡ remains i (now (low .entry)) (now (v .entry)) (adaptedOf i (now (l .entry))) (now (x .entry)) ⌝ }
 {

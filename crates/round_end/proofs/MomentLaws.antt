@@ -13,7 +13,8 @@ use lib.IntN.{ℤ}
 use lib.ListN.{length, take, drop, drop-of-length-le}
 use Rattle.refusals.specs.Limits.{mostPolynomials, mostPoints}
 use Rattle.signs.specs.Lists.{isBelow, isRising, times, upTo, keep, shift}
-use Rattle.signs.specs.Signs.{signOf, power, sign, weighted}
+use Rattle.integers.specs.Powers.{power}
+use Rattle.signs.specs.Signs.{signOf, sign, weighted}
 use Rattle.signs.specs.Adapted.{signsOf, lows, adapted}
 use Rattle.signs.proofs.Orders.{both-left, both-right, below-from, rising-from}
 use Rattle.solutions.specs.Solution.{Posed, Solution}

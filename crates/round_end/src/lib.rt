@@ -17,9 +17,9 @@ ghost use Rattle.round_end.specs.Outcome.{Left, Ended};
 ghost use Rattle.round_end.specs.Steps.{withSign, signRows, properCounts, Solved as SolvedBy};
 use integers::within;
 use refusals::MOST_ROWS;
+use signs::below;
 use signs::power;
-use solutions::below;
-use solutions::rising;
+use signs::rising;
 use solver::Solved;
 use solver::solve;
 

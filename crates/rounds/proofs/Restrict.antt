@@ -12,7 +12,8 @@ use lib.IntN.{ℤ, _+ℤ_, _*ℤ_}
 use lib.ListN.{length}
 use Rattle.integers.proofs.Diff.{diff-same, one-*ℤ}
 use Rattle.signs.specs.Lists.{times, Below}
-use Rattle.signs.specs.Signs.{sign, power, query}
+use Rattle.integers.specs.Powers.{power}
+use Rattle.signs.specs.Signs.{sign, query}
 use Rattle.signs.proofs.Digits.{digits, low}
 use Rattle.signs.proofs.Lists.{times-nil, times-same, times-other, times-append}
 use Rattle.signs.proofs.Queries.{counts, query-tally}

@@ -21,8 +21,8 @@ use refusals::MOST_ROWS;
 use round_end::Next;
 use round_end::next_rows;
 use signs::Product;
+use signs::below;
 use signs::power;
-use solutions::below;
 
 // The most points, as a record has their number.
 const MOST_POINTS: u64 = refusals::MOST_POINTS as u64;

@@ -16,7 +16,7 @@ use lib.Seq.{take-suc, take-all, take-append-le, getD-append-add}
 use Rattle.refusals.specs.Limits.{mostPoints}
 use Rattle.signs.specs.Lists.{times, shift}
 use Rattle.signs.specs.Adapted.{adapted}
-use Rattle.signs.proofs.Lists.{times-nil, times-append}
+use Rattle.signs.proofs.Lists.{times-append, times-take}
 use Rattle.signs.proofs.Queries.{counts}
 use Rattle.signs.proofs.Size.{length-shift}
 use Rattle.runs.specs.Demand.{heard, asks, Proper, SomeFits}
@@ -112,12 +112,6 @@ product-at i L k h = go (decLt k (length A))
         ∙ getD-shift (2 * 3 ^ i) A (k - length A) (omega (arith, round-twice i L))))
 
 -- ---- products asked in a round that goes on
-
-times-take : (α k : ℕ) (l : List ℕ) → times α (take k l) ≤ times α l
-times-take α zero l = omega (arith, times-nil α)
-times-take α (suc k) [] = omega arith
-times-take α (suc k) (x ∷ l) =
-    omega (arith, times-append α (x ∷ []) (take k l), times-append α (x ∷ []) l, times-take α k l)
 
 pub asked-once : (i k : ℕ) (zs : List ℤ) (ps : List ℕ) (R : List Row) → Determined i zs ps R → (α : ℕ) → times α (ps ++ take k (roundOf i (patterns R))) ≤ 1
 asked-once i k zs ps R c α = go (decLt 0 (times α ps)) (decLt 0 (times α Q))

@@ -13,7 +13,8 @@ use lib.Dec.{eqb}
 use lib.IntN.{ℤ, pos, negsuc, negℤ, _*ℤ_, zero-*ℤ}
 use Rattle.integers.proofs.Tests.{eqb-same, eqb-other}
 use Rattle.integers.proofs.Diff.{one-*ℤ, minus-*ℤ}
-use Rattle.signs.specs.Signs.{signOf, power, sign}
+use Rattle.integers.specs.Powers.{power}
+use Rattle.signs.specs.Signs.{signOf, sign}
 use Rattle.signs.specs.Bits.{bitOf, places, signBits}
 use Rattle.signs.proofs.Digits.{top, low, digits}
 

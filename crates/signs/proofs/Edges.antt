@@ -1,10 +1,11 @@
 -- Document 01's starred edges about signs and adapted lists, computed from the definitions. All starred lines are one table with one theorem in
--- proofs/Starred.antt of `determination`. Assumes nothing.
+-- proofs/Starred.antt of `runs`.
 use mathlib.Core.Path.{_≡_, refl}
 use mathlib.Core.List.{List, [], _∷_}
 use lib.IntN.{pos}
 use Rattle.signs.specs.Lists.{times, upTo, keep, shift}
-use Rattle.signs.specs.Signs.{signOf, power, sign}
+use Rattle.integers.specs.Powers.{power}
+use Rattle.signs.specs.Signs.{signOf, sign}
 use Rattle.signs.specs.Adapted.{signsOf, lows, adapted}
 
 pub record SignEdges : Type 0 where

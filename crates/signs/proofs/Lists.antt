@@ -9,6 +9,7 @@ use Prim.Native.Nat.{ℕ, zero, suc, _+_, _*_, _^_, _-_, min, _<_, _≤_}
 use native.Mathlib.Omega.{arith}
 use native.Mathlib.Decide.{ℕ-discrete, decLt}
 use lib.Dec.{T, eqb, leb, leb→le, le→leb}
+use lib.ListN.{take}
 use Rattle.integers.proofs.Tests.{is-true, eqb-same, eqb-other, eq-cases, bool-cases, T-of, not-T-of}
 use Rattle.signs.specs.Lists.{times, upTo, keep, shift}
 use Rattle.signs.specs.Adapted.{signsOf, lows}
@@ -139,3 +140,9 @@ times-one q x h = go (ℕ-discrete q x)
     go : Dec (q ≡ x) → q ≡ x
     go (yes e) = e
     go (no e) = absurd (omega (arith, times-other q x [] e, times-nil q))
+
+-- a number stands in the first k no more often than in all
+pub times-take : (q k : ℕ) (l : List ℕ) → times q (take k l) ≤ times q l
+times-take q zero l = omega (arith, times-nil q)
+times-take q (suc k) [] = omega arith
+times-take q (suc k) (x ∷ l) = omega (arith, times-append q (x ∷ []) (take k l), times-append q (x ∷ []) l, times-take q k l)

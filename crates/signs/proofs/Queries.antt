@@ -8,7 +8,8 @@ use native.Mathlib.Decide.{ℕ-discrete}
 use lib.IntN.{ℤ, pos, negsuc, _+ℤ_, _*ℤ_, negℤ, zero-*ℤ}
 use Rattle.integers.proofs.Diff.{Diff, diff-neg, diff-add, one-*ℤ, minus-*ℤ}
 use Rattle.signs.specs.Lists.{times, Below}
-use Rattle.signs.specs.Signs.{sign, signOf, power, query}
+use Rattle.integers.specs.Powers.{power}
+use Rattle.signs.specs.Signs.{sign, signOf, query}
 use Rattle.signs.proofs.Digits.{top, low, digits}
 use Rattle.signs.proofs.Lists.{times-nil, times-same, times-other, times-append}
 use Rattle.signs.proofs.Tallies.{fold, tally, Agree, tally-ext, none, tally-none, plus, tally-plus}

@@ -10,7 +10,8 @@ use lib.ListN.{length}
 use Rattle.integers.proofs.Parts.{up, dn}
 use Rattle.integers.proofs.Diff.{Diff, diff-same, diff-move, diff-neg, diff-add, one-*ℤ, minus-*ℤ}
 use Rattle.signs.specs.Lists.{times, Below, Rising}
-use Rattle.signs.specs.Signs.{signOf, power, sign, weighted}
+use Rattle.integers.specs.Powers.{power}
+use Rattle.signs.specs.Signs.{signOf, sign, weighted}
 use Rattle.signs.proofs.Lists.{times-nil, times-same, times-other}
 use Rattle.signs.proofs.Tallies.{tally, tally-ext, none, tally-none, plus, tally-plus}
 use Rattle.signs.proofs.Queries.{point, sign-tally}

@@ -1,6 +1,6 @@
--- What the solver is asked for (document 01, "Adapted lists", the solver). Assumes nothing: these are definitions.
+-- What the solver is asked for (document 01, "Adapted lists", the solver).
 --
---   limit              == 64, what the absolute values may add up to
+--   limit              == 64, the most points: what the absolute values may add up to
 --   Posed s L ds       == a question: a rising list L of patterns of s polynomials, and as many whole numbers ds
 --   Solution s L ds ws == "the whole numbers, one per pattern, whose queries on the adapted list are those numbers. They may be negative.
 --                         Their absolute values must add up to at most 64."
@@ -12,13 +12,14 @@ use mathlib.Core.List.{List, map}
 use Prim.Native.Nat.{ℕ, _^_, _≤_}
 use lib.IntN.{ℤ}
 use lib.ListN.{length}
+use Rattle.refusals.specs.Limits.{mostPoints}
 use Rattle.integers.specs.Sums.{sumAbs}
 use Rattle.signs.specs.Lists.{Below, Rising}
 use Rattle.signs.specs.Signs.{weighted}
 use Rattle.signs.specs.Adapted.{adapted}
 
 abbrev pub limit : ℕ
-limit = 64
+limit = mostPoints
 
 pub record Posed (s : ℕ) (L : List ℕ) (ds : List ℤ) : Type 0 where
   pub rising : Rising L

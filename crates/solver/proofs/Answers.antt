@@ -1,4 +1,4 @@
--- The answers of a call, by its causes in document 01's order. Assumes nothing.
+-- The answers of a call, by its causes in document 01's order.
 use mathlib.Core.Path.{_≡_, refl}
 use mathlib.Core.Bool.{true, false}
 use mathlib.Core.List.{List}
@@ -7,28 +7,33 @@ use native.Mathlib.Omega.{arith}
 use borrow.Author.Tests.{lt-ltb, le-leb, lt-leb}
 use lib.IntN.{ℤ}
 use lib.ListN.{length}
+use Rattle.refusals.specs.Limits.{mostPolynomials}
+use Rattle.refusals.specs.Numbers.{wrongCount, wrongList, tooShort}
 use Rattle.solutions.specs.Solver.{solverOf}
 use Rattle.solutions.specs.Posing.{isList}
 use Rattle.solver.specs.Solving.{answered, solveOf}
 use Rattle.solver.specs.declared.Solved.{Solved}
 use Rattle.solver.specs.declared.Solved.the-variants.{Refused}
 
-pub refused-3-none : (s : ℕ) (L : List ℕ) (xs out : List ℤ) → s ≡ 0 → solveOf s L xs out ≡ (Refused 3, out)
+pub refused-none : (s : ℕ) (L : List ℕ) (xs out : List ℤ) → s ≡ 0 → solveOf s L xs out ≡ (Refused wrongCount, out)
 unfolding solveOf
-refused-3-none s L xs out h = rw h refl
+refused-none s L xs out h = rw h refl
 
-pub refused-3-many : (s : ℕ) (L : List ℕ) (xs out : List ℤ) → 8 < s → solveOf s L xs out ≡ (Refused 3, out)
+pub refused-many : (s : ℕ) (L : List ℕ) (xs out : List ℤ) → mostPolynomials < s → solveOf s L xs out ≡ (Refused wrongCount, out)
 unfolding solveOf
-refused-3-many s L xs out h = rw (lt-ltb 0 s (omega arith), lt-leb s 8 h) refl
+refused-many s L xs out h = rw (lt-ltb 0 s (omega arith), lt-leb s mostPolynomials h) refl
 
-pub refused-11 : (s : ℕ) (L : List ℕ) (xs out : List ℤ) → (s ≡ 0 → ⊥) → s ≤ 8 → isList s L xs ≡ false → solveOf s L xs out ≡ (Refused 11, out)
+pub refused-list : (s : ℕ) (L : List ℕ) (xs out : List ℤ) → (s ≡ 0 → ⊥) → s ≤ mostPolynomials → isList s L xs ≡ false
+    → solveOf s L xs out ≡ (Refused wrongList, out)
 unfolding solveOf
-refused-11 s L xs out h k e = rw (lt-ltb 0 s (omega arith), le-leb s 8 k, e) refl
+refused-list s L xs out h k e = rw (lt-ltb 0 s (omega arith), le-leb s mostPolynomials k, e) refl
 
-pub refused-15 : (s : ℕ) (L : List ℕ) (xs out : List ℤ) → (s ≡ 0 → ⊥) → s ≤ 8 → isList s L xs ≡ true → length out < length L → solveOf s L xs out ≡ (Refused 15, out)
+pub refused-short : (s : ℕ) (L : List ℕ) (xs out : List ℤ) → (s ≡ 0 → ⊥) → s ≤ mostPolynomials → isList s L xs ≡ true → length out < length L
+    → solveOf s L xs out ≡ (Refused tooShort, out)
 unfolding solveOf
-refused-15 s L xs out h k e q = rw (lt-ltb 0 s (omega arith), le-leb s 8 k, e, lt-leb (length L) (length out) q) refl
+refused-short s L xs out h k e q = rw (lt-ltb 0 s (omega arith), le-leb s mostPolynomials k, e, lt-leb (length L) (length out) q) refl
 
-pub well-posed : (s : ℕ) (L : List ℕ) (xs out : List ℤ) → (s ≡ 0 → ⊥) → s ≤ 8 → isList s L xs ≡ true → length L ≤ length out → solveOf s L xs out ≡ answered out (solverOf s L xs)
+pub well-posed : (s : ℕ) (L : List ℕ) (xs out : List ℤ) → (s ≡ 0 → ⊥) → s ≤ mostPolynomials → isList s L xs ≡ true → length L ≤ length out
+    → solveOf s L xs out ≡ answered out (solverOf s L xs)
 unfolding solveOf
-well-posed s L xs out h k e q = rw (lt-ltb 0 s (omega arith), le-leb s 8 k, e, le-leb (length L) (length out) q) refl
+well-posed s L xs out h k e q = rw (lt-ltb 0 s (omega arith), le-leb s mostPolynomials k, e, le-leb (length L) (length out) q) refl

@@ -3,12 +3,19 @@
 ghost use mathlib.Core.Path.{_≡_};
 ghost use Prim.Native.Nat.{_≤_};
 ghost use lib.ListN.{length};
+ghost use Rattle.refusals.specs.Limits.{mostPolynomials, mostPoints};
 ghost use Rattle.solutions.specs.Solution.{Posed};
 ghost use Rattle.solutions.specs.Solver.{solverOf};
 ghost use Rattle.solver.specs.Solving.{answered, solveOf};
 use descent::solve_list;
 use moments::copy_small;
 use moments::copy_wide;
+use refusals::MOST_POINTS;
+use refusals::MOST_POLYNOMIALS;
+use refusals::NO_SOLUTION;
+use refusals::TOO_SHORT;
+use refusals::WRONG_COUNT;
+use refusals::WRONG_LIST;
 use solutions::posed;
 
 // What a call answers: that the numbers are found, or document 01's number of the cause why they are not.
@@ -26,20 +33,20 @@ pub fn solve(s: usize, patterns: &[u16], numbers: &[i64], out: &mut [i64]) -> So
     ensures { λ _. ⌜ now (out .exit) ≡ solveOf s (now (patterns .entry)) (now (numbers .entry)) (now (out .entry)) .1 ⌝ }
 {
     if s == 0 {
-        return Solved::Refused(3);
+        return Solved::Refused(WRONG_COUNT);
     }
-    if 8 < s {
-        return Solved::Refused(3);
+    if MOST_POLYNOMIALS < s {
+        return Solved::Refused(WRONG_COUNT);
     }
     if !posed(s, patterns, numbers) {
-        return Solved::Refused(11);
+        return Solved::Refused(WRONG_LIST);
     }
     let n = patterns.len();
     if out.len() < n {
-        return Solved::Refused(15);
+        return Solved::Refused(TOO_SHORT);
     }
-    let mut x = [0i16; 64];
-    let mut v = [0i16; 64];
+    let mut x = [0i16; MOST_POINTS];
+    let mut v = [0i16; MOST_POINTS];
     solve_to(s, patterns, numbers, &mut x[..n], &mut v[..n], out)
 }
 
@@ -52,17 +59,17 @@ fn solve_to(
     v: &mut [i16],
     out: &mut [i64],
 ) -> Solved
-    requires { ⌜ (s ≤ 8) × (length (now patterns) ≤ 64) × (length (now patterns) ≤ length (now out)) ⌝ }
+    requires { ⌜ (s ≤ mostPolynomials) × (length (now patterns) ≤ mostPoints) × (length (now patterns) ≤ length (now out)) ⌝ }
     requires { ⌜ (length (now x) ≡ length (now patterns)) × (length (now v) ≡ length (now patterns)) ⌝ }
     requires { ⌜ Posed s (now patterns) (now numbers) ⌝ }
     ensures { λ r. ⌜ r ≡ answered (now (out .entry)) (solverOf s (now (patterns .entry)) (now (numbers .entry))) .0 ⌝ }
     ensures { λ _. ⌜ now (out .exit) ≡ answered (now (out .entry)) (solverOf s (now (patterns .entry)) (now (numbers .entry))) .1 ⌝ }
 {
     if !copy_small(numbers, x) {
-        return Solved::Refused(12);
+        return Solved::Refused(NO_SOLUTION);
     }
     if !solve_list(patterns, s, x, v) {
-        return Solved::Refused(12);
+        return Solved::Refused(NO_SOLUTION);
     }
     copy_wide(v, out);
     Solved::Found

@@ -90,7 +90,7 @@ pub extern "C" fn tarski_check(card: &[u8]) -> Checked
         Card::Refused(k) => Checked {
             polynomials: 0,
             points: 0,
-            refusal: k as u16,
+            refusal: k,
         },
     }
 }

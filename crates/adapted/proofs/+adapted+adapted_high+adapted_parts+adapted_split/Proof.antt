@@ -1,5 +1,5 @@
 -- The proof of the cycle of calls {adapted, adapted_split, adapted_parts, adapted_high}: a call takes a polynomial off, or goes one step
--- down within the same number of them. Assumes nothing.
+-- down within the same number of them.
 use mathlib.Core.Path.{_≡_}
 use Prim.Native.Nat.{ℕ, suc, _+_, _*_, _-_, _^_, _≤_, _<_}
 use lib.ListN.{length, take}
@@ -87,7 +87,7 @@ adapted-one-less : (t : ℕ) (c : adapted-lts.Else2 (adapted-split-below t, adap
     → suc (c .before .before .before .before .args .i - 1) ≡ c .before .before .before .before .args .i
 adapted-one-less t c =
     let st = c .before .before .before .before in
-    let h : 1 ≤ st .args .i = some-polynomial (st .args .i) (st .args .s .now) (st .pre .1 .1 .0 .0) (st .pre .1 .1 .0 .1) (c .before .if1 .left) (c .if2 .left) in
+    let h : 1 ≤ st .args .i = some-polynomial (st .args .i) (st .args .l .now) (st .pre .1 .1 .0 .0) (st .pre .1 .1 .0 .1) (c .before .if1 .left) (c .if2 .left) in
     omega arith
 
 -- the patterns that `having` left
@@ -107,11 +107,11 @@ adapted-parts-size t c = parts-length (c .args .i) (c .args .low .now) (c .args 
 -- what the merge left
 adapted-split-fronts : (t : ℕ) (c : adapted-split-lts.After-split (power-reads.Asked, power-reads.Learnt, split-reads.Asked, split-reads.Learnt, adapted-parts-below t, adapted-parts.Post) (adapted-split-at t) adapted-split.Post)
     → let a = c .before .before .before .before .before .before .before .args in
-    Fronts (a .i) (c .split .result) (a .s .now) (take (c .split .result) (c .split .last .1 .1 .0)) (take (c .split .result) (c .split .last .1 .1 .1 .0))
+    Fronts (a .i) (c .split .result) (a .l .now) (take (c .split .result) (c .split .last .1 .1 .0)) (take (c .split .result) (c .split .last .1 .1 .1 .0))
 adapted-split-fronts t c =
     let p = c .before .before .before .before in
     let st = p .before .before .before in
-    fronts (st .args .i) (c .split .result) (p .power .result) (st .args .s .now) (c .split .last .1 .1 .0) (c .split .last .1 .1 .1 .0) (c .split .last .1 .1 .1 .1 .0)
+    fronts (st .args .i) (c .split .result) (p .power .result) (st .args .l .now) (c .split .last .1 .1 .0) (c .split .last .1 .1 .1 .0) (c .split .last .1 .1 .1 .1 .0)
     (p .power .ensures) (st .pre .1 .1 .0 .0) (st .pre .1 .1 .0 .1) (omega (arith, c .split .kept .1 .1 .0)) (omega (arith, c .split .kept .1 .1 .1 .0)) (c .split .ensures)
 
 pub +adapted+adapted-high+adapted-parts+adapted-split-spec : {M : Type 1} → statement M
@@ -124,14 +124,14 @@ pub +adapted+adapted-high+adapted-parts+adapted-split-spec : {M : Type 1} → st
     adapted.Post
     (λ c. let st = c .before .before .before in
     let a = st .args in
-    (omega arith, written-none (a .i) (a .b) (a .at) (a .s .now) (a .out .now) (c .if1 .taken)))
+    (omega arith, written-none (a .i) (a .b) (a .at) (a .l .now) (a .out .now) (c .if1 .taken)))
     (λ c. search needs)
     (λ c. search needs)
     (λ c. search needs)
     (λ c. search needs)
     (λ c. let st = c .before .before .before .before in
     let a = st .args in
-    (omega arith, written-one (a .i) (a .b) (a .at) (a .s .now) (a .out .now) (st .pre .1 .1 .0 .1) (c .if2 .taken)))
+    (omega arith, written-one (a .i) (a .b) (a .at) (a .l .now) (a .out .now) (st .pre .1 .1 .0 .1) (c .if2 .taken)))
     (λ c. omega (arith, adapted-one-less t c))
     (λ c κs. let st = c .before .before .before .before .before in
     let e : suc (st .args .i - 1) ≡ st .args .i = adapted-one-less t (c .before) in

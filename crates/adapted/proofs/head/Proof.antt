@@ -1,4 +1,4 @@
--- `adapted::head` meets its contract. Assumes nothing.
+-- `adapted::head` meets its contract.
 use mathlib.Core.Path.{refl}
 use borrow.Author.Tests.{lt-ltb, le-ltb}
 use Rattle.adapted.specs.Split.{headOf}

@@ -1,4 +1,4 @@
--- `adapted::split` meets its contract: each turn takes the smallest low part that is left. Assumes nothing.
+-- `adapted::split` meets its contract: each turn takes the smallest low part that is left.
 use mathlib.Core.Bool.{Bool, cond}
 use mathlib.Core.List.{List}
 use Prim.Native.Nat.{ℕ, suc, _≤_, _<_, _-_, _+_, _*_}
@@ -15,26 +15,26 @@ use Rattle.adapted.proofs.advance.Reads as advance-reads
 use Rattle.adapted.proofs.head.Reads as head-reads
 use Rattle.adapted.proofs.least.Reads as least-reads
 use Rattle.adapted.proofs.marks.Reads as marks-reads
-use Rattle.adapted.proofs.place.Reads as place-reads
+use Rattle.adapted.proofs.leading_count.Reads as leading-count-reads
 
 abbrev Inv-loop : tie.InvT-loop
-Inv-loop s w low₀ mark₀ at₀ mid top a₀ b₀ c₀ n₀ low mark at a b c n =
-    (length low ≡ length low₀) × (length mark ≡ length mark₀) × (length at ≡ length at₀) × ((t : ℕ) × Merged s w mid top low mark at a b c n t)
+Inv-loop l w low₀ mark₀ at₀ mid top a₀ b₀ c₀ n₀ low mark at a b c n =
+    (length low ≡ length low₀) × (length mark ≡ length mark₀) × (length at ≡ length at₀) × ((t : ℕ) × Merged l w mid top low mark at a b c n t)
 
 abbrev μ-loop : tie.MeasureT-loop
-μ-loop s w low₀ mark₀ at₀ mid top a₀ b₀ c₀ n₀ low mark at a b c n = (mid + top + length s) - (a + b + c)
+μ-loop l w low₀ mark₀ at₀ mid top a₀ b₀ c₀ n₀ low mark at a b c n = (mid + top + length l) - (a + b + c)
 
 -- what is known at the loop's head: where each block begins and ends
-ranges : (c : tie.At-loop Inv-loop μ-loop) → Range (c .before .before .before .before .before .before .before .args .s .now) (c .before .before .before .before .before .before .before .args .w) 0 0 (c .before .before .place .result)
-    × Range (c .before .before .before .before .before .before .before .args .s .now) (c .before .before .before .before .before .before .before .args .w) (c .before .before .before .before .before .before .before .args .w) (c .before .before .place .result) (c .before .place2 .result)
-    × Range (c .before .before .before .before .before .before .before .args .s .now) (c .before .before .before .before .before .before .before .args .w) (2 * c .before .before .before .before .before .before .before .args .w) (c .before .place2 .result) (length (c .before .before .before .before .before .before .before .args .s .now))
+ranges : (c : tie.At-loop Inv-loop μ-loop) → Range (c .before .before .before .before .before .before .before .args .l .now) (c .before .before .before .before .before .before .before .args .w) 0 0 (c .before .before .leading-count .result)
+    × Range (c .before .before .before .before .before .before .before .args .l .now) (c .before .before .before .before .before .before .before .args .w) (c .before .before .before .before .before .before .before .args .w) (c .before .before .leading-count .result) (c .before .leading-count2 .result)
+    × Range (c .before .before .before .before .before .before .before .args .l .now) (c .before .before .before .before .before .before .before .args .w) (2 * c .before .before .before .before .before .before .before .args .w) (c .before .leading-count2 .result) (length (c .before .before .before .before .before .before .before .args .l .now))
 ranges c =
     let s = c .before .before .before .before .before .before .before in
-    let em = c .before .before .place .ensures in
-    let et = c .before .place2 .ensures in (
-      zero-range (s .args .s .now) (s .args .w) _ _ (s .pre .0 .1) (s .pre .0 .2) em et,
-      plus-range (s .args .s .now) (s .args .w) _ _ (s .pre .0 .1) (s .pre .0 .2) em et,
-      minus-range (s .args .s .now) (s .args .w) _ _ (s .pre .0 .1) (s .pre .0 .2) em et,
+    let em = c .before .before .leading-count .ensures in
+    let et = c .before .leading-count2 .ensures in (
+      zero-range (s .args .l .now) (s .args .w) _ _ (s .pre .0 .1) (s .pre .0 .2) em et,
+      plus-range (s .args .l .now) (s .args .w) _ _ (s .pre .0 .1) (s .pre .0 .2) em et,
+      minus-range (s .args .l .now) (s .args .w) _ _ (s .pre .0 .1) (s .pre .0 .2) em et,
     )
 
 cursors : (c : tie.At-loop Inv-loop μ-loop) → (c .loop .a ≤ 64) × (c .loop .b ≤ 64) × (c .loop .c ≤ 64)
@@ -48,12 +48,12 @@ abbrev at-loop : (c : tie.Else1 Inv-loop μ-loop) → tie.At-loop Inv-loop μ-lo
 at-loop c = c .before .before .before .before .before
 
 -- in a turn there is room for one more
-room : (c : tie.Else1 Inv-loop μ-loop) → (c .before .before .before .before .before .loop .n < length (c .before .before .before .before .before .before .before .before .before .before .before .before .args .s .now))
-    × (length (c .before .before .before .before .before .before .before .before .before .before .before .before .args .s .now) ≤ 64) × (length (c .before .before .before .before .before .before .before .before .before .before .before .before .args .s .now) ≤ length (c .before .before .before .before .before .loop .low))
-    × (length (c .before .before .before .before .before .before .before .before .before .before .before .before .args .s .now) ≤ length (c .before .before .before .before .before .loop .mark))
-    × (length (c .before .before .before .before .before .before .before .before .before .before .before .before .args .s .now) ≤ length (c .before .before .before .before .before .loop .at))
+room : (c : tie.Else1 Inv-loop μ-loop) → (c .before .before .before .before .before .loop .n < length (c .before .before .before .before .before .before .before .before .before .before .before .before .args .l .now))
+    × (length (c .before .before .before .before .before .before .before .before .before .before .before .before .args .l .now) ≤ 64) × (length (c .before .before .before .before .before .before .before .before .before .before .before .before .args .l .now) ≤ length (c .before .before .before .before .before .loop .low))
+    × (length (c .before .before .before .before .before .before .before .before .before .before .before .before .args .l .now) ≤ length (c .before .before .before .before .before .loop .mark))
+    × (length (c .before .before .before .before .before .before .before .before .before .before .before .before .args .l .now) ≤ length (c .before .before .before .before .before .loop .at))
 room c = (
-  one-left (c .before .before .before .before .before .before .before .before .before .before .before .before .args .s .now) (c .before .before .before .before .before .before .before .before .before .before .before .before .args .w) (c .before .before .before .before .before .before .before .place .result) (c .before .before .before .before .before .before .place2 .result) (c .before .before .before .before .before .before .before .before .before .before .before .before .pre .0 .1) (c .before .before .before .before .before .before .before .before .before .before .before .before .pre .0 .2) (c .before .before .before .before .before .before .before .place .ensures) (c .before .before .before .before .before .before .place2 .ensures)
+  one-left (c .before .before .before .before .before .before .before .before .before .before .before .before .args .l .now) (c .before .before .before .before .before .before .before .before .before .before .before .before .args .w) (c .before .before .before .before .before .before .before .leading-count .result) (c .before .before .before .before .before .before .leading-count2 .result) (c .before .before .before .before .before .before .before .before .before .before .before .before .pre .0 .1) (c .before .before .before .before .before .before .before .before .before .before .before .before .pre .0 .2) (c .before .before .before .before .before .before .before .leading-count .ensures) (c .before .before .before .before .before .before .leading-count2 .ensures)
       (c .before .before .before .before .before .loop .low) (c .before .before .before .before .before .loop .mark) (c .before .before .before .before .before .loop .at) (c .before .before .before .before .before .loop .a) (c .before .before .before .before .before .loop .b) (c .before .before .before .before .before .loop .c) (c .before .before .before .before .before .loop .n) (c .before .before .before .before .before .loop .inv .3 .0) (c .before .before .before .before .before .loop .inv .3 .1)
       (c .before .before .before .before .head .result) (c .before .before .before .head2 .result) (c .before .before .head3 .result) (c .before .least .result) (c .before .before .before .before .head .ensures) (c .before .before .before .head2 .ensures) (c .before .before .head3 .ensures) (c .before .least .ensures)
       (c .if1 .left),
@@ -78,17 +78,17 @@ firsts c =
       λ e. omega (arith, next-left (g .2) r (m .minus-block) _ (c .before .before .head3 .ensures) (c .before .least .result) (c .if1 .left) (eq-eqb _ _ e), room c),
     )
 
-place-requires : tie.Need-place-requires Inv-loop μ-loop
-place-requires c κs = tt
+leading-count-requires : tie.Need-leading-count-requires Inv-loop μ-loop
+leading-count-requires c κs = tt
 
-mul-place : tie.Need-mul-place Inv-loop μ-loop
-mul-place c = omega arith
+mul-leading-count : tie.Need-mul-leading-count Inv-loop μ-loop
+mul-leading-count c = omega arith
 
-place-requires-2 : tie.Need-place-requires-2 Inv-loop μ-loop
-place-requires-2 c κs = tt
+leading-count-requires-2 : tie.Need-leading-count-requires-2 Inv-loop μ-loop
+leading-count-requires-2 c κs = tt
 
 loop-holds : tie.Need-loop-holds Inv-loop μ-loop
-loop-holds c = (refl, refl, refl, (0, merge-begins (c .before .before .before .before .before .before .args .s .now) (c .before .before .before .before .before .before .args .w) _ _ (c .before .before .before .before .before .before .pre .0 .1) (c .before .before .before .before .before .before .pre .0 .2) (c .before .place .ensures) (c .place2 .ensures) _ _ _))
+loop-holds c = (refl, refl, refl, (0, merge-begins (c .before .before .before .before .before .before .args .l .now) (c .before .before .before .before .before .before .args .w) _ _ (c .before .before .before .before .before .before .pre .0 .1) (c .before .before .before .before .before .before .pre .0 .2) (c .before .leading-count .ensures) (c .leading-count2 .ensures) _ _ _))
 
 head-requires : tie.Need-head-requires Inv-loop μ-loop
 head-requires c κs = λ h. (omega (arith, (ranges c) .0 .within), omega arith)
@@ -117,7 +117,7 @@ same-length-3 : tie.Need-same-length-3 Inv-loop μ-loop
 same-length-3 c = omega arith
 
 returns : tie.Need-returns Inv-loop μ-loop
-returns c = merged (c .before .before .before .before .before .before .before .before .before .before .before .before .args .s .now) (c .before .before .before .before .before .before .before .before .before .before .before .before .args .w) (c .before .before .before .before .before .before .before .place .result) (c .before .before .before .before .before .before .place2 .result) (c .before .before .before .before .before .before .before .before .before .before .before .before .pre .0 .1) (c .before .before .before .before .before .before .before .before .before .before .before .before .pre .0 .2) (c .before .before .before .before .before .before .before .place .ensures) (c .before .before .before .before .before .before .place2 .ensures)
+returns c = merged (c .before .before .before .before .before .before .before .before .before .before .before .before .args .l .now) (c .before .before .before .before .before .before .before .before .before .before .before .before .args .w) (c .before .before .before .before .before .before .before .leading-count .result) (c .before .before .before .before .before .before .leading-count2 .result) (c .before .before .before .before .before .before .before .before .before .before .before .before .pre .0 .1) (c .before .before .before .before .before .before .before .before .before .before .before .before .pre .0 .2) (c .before .before .before .before .before .before .before .leading-count .ensures) (c .before .before .before .before .before .before .leading-count2 .ensures)
     (c .before .before .before .before .before .loop .low) (c .before .before .before .before .before .loop .mark) (c .before .before .before .before .before .loop .at) (c .before .before .before .before .before .loop .a) (c .before .before .before .before .before .loop .b) (c .before .before .before .before .before .loop .c) (c .before .before .before .before .before .loop .n) (c .before .before .before .before .before .loop .inv .3 .0) (c .before .before .before .before .before .loop .inv .3 .1)
     (c .before .before .before .before .head .result) (c .before .before .before .head2 .result) (c .before .before .head3 .result) (c .before .least .result) (c .before .before .before .before .head .ensures) (c .before .before .before .head2 .ensures) (c .before .before .head3 .ensures) (c .before .least .ensures)
     (c .if1 .taken)
@@ -163,7 +163,7 @@ add-n c = omega (arith, room (c .before .before .before .before .before .before 
 
 loop-less : tie.Need-loop-less Inv-loop μ-loop
 loop-less c =
-    let f = further (c .before .before .before .before .before .before .before .before .before .before .before .before .before .before .before .before .before .before .before .before .before .before .before .before .before .args .s .now) (c .before .before .before .before .before .before .before .before .before .before .before .before .before .before .before .before .before .before .before .before .before .before .before .before .before .args .w) (c .before .before .before .before .before .before .before .before .before .before .before .before .before .before .before .before .before .before .before .before .place .result) (c .before .before .before .before .before .before .before .before .before .before .before .before .before .before .before .before .before .before .before .place2 .result) (c .before .before .before .before .before .before .before .before .before .before .before .before .before .before .before .before .before .before .before .before .before .before .before .before .before .pre .0 .1) (c .before .before .before .before .before .before .before .before .before .before .before .before .before .before .before .before .before .before .before .before .before .before .before .before .before .pre .0 .2) (c .before .before .before .before .before .before .before .before .before .before .before .before .before .before .before .before .before .before .before .before .place .ensures) (c .before .before .before .before .before .before .before .before .before .before .before .before .before .before .before .before .before .before .before .place2 .ensures)
+    let f = further (c .before .before .before .before .before .before .before .before .before .before .before .before .before .before .before .before .before .before .before .before .before .before .before .before .before .args .l .now) (c .before .before .before .before .before .before .before .before .before .before .before .before .before .before .before .before .before .before .before .before .before .before .before .before .before .args .w) (c .before .before .before .before .before .before .before .before .before .before .before .before .before .before .before .before .before .before .before .before .leading-count .result) (c .before .before .before .before .before .before .before .before .before .before .before .before .before .before .before .before .before .before .before .leading-count2 .result) (c .before .before .before .before .before .before .before .before .before .before .before .before .before .before .before .before .before .before .before .before .before .before .before .before .before .pre .0 .1) (c .before .before .before .before .before .before .before .before .before .before .before .before .before .before .before .before .before .before .before .before .before .before .before .before .before .pre .0 .2) (c .before .before .before .before .before .before .before .before .before .before .before .before .before .before .before .before .before .before .before .before .leading-count .ensures) (c .before .before .before .before .before .before .before .before .before .before .before .before .before .before .before .before .before .before .before .leading-count2 .ensures)
     (c .before .before .before .before .before .before .before .before .before .before .before .before .before .before .before .before .before .before .loop .low) (c .before .before .before .before .before .before .before .before .before .before .before .before .before .before .before .before .before .before .loop .mark) (c .before .before .before .before .before .before .before .before .before .before .before .before .before .before .before .before .before .before .loop .at) (c .before .before .before .before .before .before .before .before .before .before .before .before .before .before .before .before .before .before .loop .a) (c .before .before .before .before .before .before .before .before .before .before .before .before .before .before .before .before .before .before .loop .b) (c .before .before .before .before .before .before .before .before .before .before .before .before .before .before .before .before .before .before .loop .c) (c .before .before .before .before .before .before .before .before .before .before .before .before .before .before .before .before .before .before .loop .n) (c .before .before .before .before .before .before .before .before .before .before .before .before .before .before .before .before .before .before .loop .inv .3 .0) (c .before .before .before .before .before .before .before .before .before .before .before .before .before .before .before .before .before .before .loop .inv .3 .1)
     (c .before .before .before .before .before .before .before .before .before .before .before .before .before .before .before .before .before .head .result) (c .before .before .before .before .before .before .before .before .before .before .before .before .before .before .before .before .head2 .result) (c .before .before .before .before .before .before .before .before .before .before .before .before .before .before .before .head3 .result) (c .before .before .before .before .before .before .before .before .before .before .before .before .before .before .least .result) (c .before .before .before .before .before .before .before .before .before .before .before .before .before .before .before .before .before .head .ensures) (c .before .before .before .before .before .before .before .before .before .before .before .before .before .before .before .before .head2 .ensures) (c .before .before .before .before .before .before .before .before .before .before .before .before .before .before .before .head3 .ensures) (c .before .before .before .before .before .before .before .before .before .before .before .before .before .before .least .ensures)
     (c .before .before .before .before .before .before .before .before .before .before .before .before .marks .result) (c .before .before .before .before .before .before .before .before .before .before .before .before .before .if1 .left) (c .before .before .before .before .before .before .before .before .before .before .before .before .marks .ensures) (room (c .before .before .before .before .before .before .before .before .before .before .before .before .before) .2) (room (c .before .before .before .before .before .before .before .before .before .before .before .before .before) .3) (room (c .before .before .before .before .before .before .before .before .before .before .before .before .before) .4) in
@@ -178,7 +178,7 @@ loop-again c = (
   (
     suc (c .before .before .before .before .before .before .before .before .before .before .before .before .before .before .least .result),
     rw (c .before .before .before .before .before .before .before .before .before .before .advance .ensures .0, c .before .before .before .before .before .before .advance2 .ensures .0, c .before .before .advance3 .ensures .0)
-        (turned (c .before .before .before .before .before .before .before .before .before .before .before .before .before .before .before .before .before .before .before .before .before .before .before .before .before .args .s .now) (c .before .before .before .before .before .before .before .before .before .before .before .before .before .before .before .before .before .before .before .before .before .before .before .before .before .args .w) (c .before .before .before .before .before .before .before .before .before .before .before .before .before .before .before .before .before .before .before .before .place .result) (c .before .before .before .before .before .before .before .before .before .before .before .before .before .before .before .before .before .before .before .place2 .result) (c .before .before .before .before .before .before .before .before .before .before .before .before .before .before .before .before .before .before .before .before .before .before .before .before .before .pre .0 .1) (c .before .before .before .before .before .before .before .before .before .before .before .before .before .before .before .before .before .before .before .before .before .before .before .before .before .pre .0 .2) (c .before .before .before .before .before .before .before .before .before .before .before .before .before .before .before .before .before .before .before .before .place .ensures) (c .before .before .before .before .before .before .before .before .before .before .before .before .before .before .before .before .before .before .before .place2 .ensures)
+        (turned (c .before .before .before .before .before .before .before .before .before .before .before .before .before .before .before .before .before .before .before .before .before .before .before .before .before .args .l .now) (c .before .before .before .before .before .before .before .before .before .before .before .before .before .before .before .before .before .before .before .before .before .before .before .before .before .args .w) (c .before .before .before .before .before .before .before .before .before .before .before .before .before .before .before .before .before .before .before .before .leading-count .result) (c .before .before .before .before .before .before .before .before .before .before .before .before .before .before .before .before .before .before .before .leading-count2 .result) (c .before .before .before .before .before .before .before .before .before .before .before .before .before .before .before .before .before .before .before .before .before .before .before .before .before .pre .0 .1) (c .before .before .before .before .before .before .before .before .before .before .before .before .before .before .before .before .before .before .before .before .before .before .before .before .before .pre .0 .2) (c .before .before .before .before .before .before .before .before .before .before .before .before .before .before .before .before .before .before .before .before .leading-count .ensures) (c .before .before .before .before .before .before .before .before .before .before .before .before .before .before .before .before .before .before .before .leading-count2 .ensures)
         (c .before .before .before .before .before .before .before .before .before .before .before .before .before .before .before .before .before .before .loop .low) (c .before .before .before .before .before .before .before .before .before .before .before .before .before .before .before .before .before .before .loop .mark) (c .before .before .before .before .before .before .before .before .before .before .before .before .before .before .before .before .before .before .loop .at) (c .before .before .before .before .before .before .before .before .before .before .before .before .before .before .before .before .before .before .loop .a) (c .before .before .before .before .before .before .before .before .before .before .before .before .before .before .before .before .before .before .loop .b) (c .before .before .before .before .before .before .before .before .before .before .before .before .before .before .before .before .before .before .loop .c) (c .before .before .before .before .before .before .before .before .before .before .before .before .before .before .before .before .before .before .loop .n) (c .before .before .before .before .before .before .before .before .before .before .before .before .before .before .before .before .before .before .loop .inv .3 .0) (c .before .before .before .before .before .before .before .before .before .before .before .before .before .before .before .before .before .before .loop .inv .3 .1)
         (c .before .before .before .before .before .before .before .before .before .before .before .before .before .before .before .before .before .head .result) (c .before .before .before .before .before .before .before .before .before .before .before .before .before .before .before .before .head2 .result) (c .before .before .before .before .before .before .before .before .before .before .before .before .before .before .before .head3 .result) (c .before .before .before .before .before .before .before .before .before .before .before .before .before .before .least .result) (c .before .before .before .before .before .before .before .before .before .before .before .before .before .before .before .before .before .head .ensures) (c .before .before .before .before .before .before .before .before .before .before .before .before .before .before .before .before .head2 .ensures) (c .before .before .before .before .before .before .before .before .before .before .before .before .before .before .before .head3 .ensures) (c .before .before .before .before .before .before .before .before .before .before .before .before .before .before .least .ensures)
         (c .before .before .before .before .before .before .before .before .before .before .before .before .marks .result) (c .before .before .before .before .before .before .before .before .before .before .before .before .before .if1 .left) (c .before .before .before .before .before .before .before .before .before .before .before .before .marks .ensures) (room (c .before .before .before .before .before .before .before .before .before .before .before .before .before) .2) (room (c .before .before .before .before .before .before .before .before .before .before .before .before .before) .3) (room (c .before .before .before .before .before .before .before .before .before .before .before .before .before) .4) _ _ _ (c .before .before .before .before .before .before .before .before .before .before .advance .ensures .1) (c .before .before .before .before .before .before .advance2 .ensures .1) (c .before .before .advance3 .ensures .1)),
@@ -191,9 +191,9 @@ split-spec =
     (tie.spec
     Inv-loop
     μ-loop
-    place-requires
-    mul-place
-    place-requires-2
+    leading-count-requires
+    mul-leading-count
+    leading-count-requires-2
     loop-holds
     head-requires
     head-requires-2

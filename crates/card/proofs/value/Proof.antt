@@ -11,10 +11,11 @@ use mir.Val.{SFits, toZ, ofZ}
 use mir.Facts.{toZ-ofZ}
 use Rattle.integers.specs.Sums.{Within}
 use Rattle.integers.proofs.Parts.{int, parts, side}
-use Rattle.layout.specs.Limits.{most-coefficient}
+use Rattle.refusals.specs.Limits.{mostCoefficient}
 use Rattle.layout.specs.Format.{offset}
 use Rattle.layout.specs.Body.{Whole}
-use Rattle.layout.specs.Values.{polynomial, evaluate, value}
+use Rattle.polynomials.specs.Values.{evaluate}
+use Rattle.layout.specs.Values.{polynomial, value}
 use Rattle.layout.proofs.Coefficients.{polynomial-within, evaluate-polynomial}
 use Rattle.card.specs.declared.Evaluated.the-variants as Evaluated
 use Rattle.card.specs.Card.{place}
@@ -41,7 +42,7 @@ module _ (c : List ℕ) (j at : ℕ) (h : place c j ≡ 0) (e : at ≡ offset c 
   body-at = subst (Whole c) (sym e) (held c j h .body .small .whole)
 
   module _ (p : List ℤ) (d : p ≡ polynomial c at) where
-    within : Within most-coefficient p
+    within : Within mostCoefficient p
     within = rw (d, e) (polynomial-within c (offset c j) (held c j h .body .small))
 
     its-value : (x : ℤ) → evaluate p x ≡ value c (offset c j) x

@@ -1,4 +1,4 @@
--- The functions of the solver's recursion meet their contracts: the solver finds the solution, or there is none. Assumes nothing.
+-- The functions of the solver's recursion meet their contracts: the solver finds the solution, or there is none.
 use mathlib.Core.Path.{_≡_, refl, sym, ap, _∙_, subst}
 use mathlib.Core.List.{List}
 use native.Mathlib.Omega.{arith}
@@ -12,10 +12,12 @@ use Rattle.signs.specs.Lists.{Below}
 use Rattle.adapted.specs.Split.{chosen}
 use Rattle.adapted.proofs.Adapting.{some-polynomial}
 use Rattle.adapted.proofs.Merge.{chosen-length}
-use Rattle.moments.proofs.Laws.{back, within-more}
+use Rattle.integers.proofs.Sums.{within-more}
+use Rattle.integers.proofs.I16.{back}
+use Rattle.signs.proofs.Powers.{power-less}
 use Rattle.solutions.specs.Solution.{Solution}
 use Rattle.descent.proofs.Steps.{rank-all}
-use Rattle.descent.proofs.Turns.{too-large, no-patterns, one-pattern, within-sum, second-within, third-within, spread-within, moment-none, room, within-between, parted, below-places, front-list, pow-seven, below-three}
+use Rattle.descent.proofs.Turns.{too-large, no-patterns, one-pattern, within-sum, second-within, third-within, spread-within, moment-none, room, within-between, parted, below-places, front-list, below-three}
 use Prim.Native.Nat.{ℕ, suc, _+_, _*_, _-_, _<_}
 use borrow.Fn.Kinds.{In}
 use borrow.Fn.PlainCycle.{Measures, is, falls, and}
@@ -288,7 +290,7 @@ pub +moment+moment-with+solve-list+solve-low+solve-split+solve-with-spec :
     let st = c .before .before .before .before .before in
     let pr = st .pre .1 in
     let h = pr .0 .3 in
-    rw (c .before .before .before .power .ensures) ((pow-seven (st .args .i) (pr .0 .0), pr .0 .1, below-three (st .args .i) (st .args .l .now) (pr .0 .2), h), (h, h, h)))
+    rw (c .before .before .before .power .ensures) ((power-less (st .args .i) (pr .0 .0), pr .0 .1, below-three (st .args .i) (st .args .l .now) (pr .0 .2), h), (h, h, h)))
     (λ c. (omega (arith, c .before .before .before .split .ensures .few, c .before .before .before .split .kept .1 .1 .0, c .before .before .before .before .before .before .before .before .before .pre .1 .0 .3)))
     (λ c. sym (length-take-le _ _ (omega (arith, c .before .before .before .before .split .ensures .few, c .before .before .before .before .split .kept .1 .1 .0, c .before .before .before .before .before .before .before .before .before .before .pre .1 .0 .3))))
     (λ c. (omega (arith, c .before .before .before .before .split .ensures .few, c .before .before .before .before .split .kept .1 .1 .1 .0, c .before .before .before .before .before .before .before .before .before .before .pre .1 .0 .3)))

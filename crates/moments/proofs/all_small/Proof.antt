@@ -6,7 +6,9 @@ use borrow.Author.Count.{below-more}
 use borrow.Author.Needs.{needs}
 use lib.IntN.{ℤ, pos, natAbs}
 use lib.ListN.{length, getD}
-use Rattle.moments.proofs.Laws.{back, back-64, within-of, each-more}
+use Rattle.integers.proofs.Sums.{within-of}
+use Rattle.integers.proofs.I16.{back}
+use Rattle.integers.proofs.I64.{back-64}
 use Rattle.moments.proofs.all_small.Statement.{statement}
 use Rattle.moments.proofs.all_small.Tie as tie
 

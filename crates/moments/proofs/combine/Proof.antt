@@ -18,7 +18,9 @@ use Rattle.signs.proofs.Positions.{below-at}
 use Rattle.integers.specs.declared.Half.the-variants.{Whole, Odd}
 use Rattle.integers.proofs.Sums.{sumAbs-step, sumAbs-take, sumAbs-all, sumAbs-none}
 use Rattle.moments.specs.Moments.{NumberOf, NumberAt, Numbered, Combined}
-use Rattle.moments.proofs.Laws.{back, back-64, each-more}
+use Rattle.integers.proofs.I16.{back}
+use Rattle.integers.proofs.I64.{back-64}
+use Rattle.integers.proofs.Stores.{each-more}
 use Rattle.moments.proofs.Loops.{too-many, left-next}
 use Rattle.moments.proofs.combine.Statement.{statement}
 use Rattle.moments.proofs.combine.Tie as tie
@@ -163,7 +165,7 @@ loop-again c =
       omega (arith, c .before .before .before .before .before .before .before .before .before .before .before .before .before .loop-test .taken),
       length-set (at .loop .out) (at .loop .k) _ ∙ at .loop .inv .1,
       left-next (at .loop .left) (c .before .before .magnitude .result) (at .loop .k) (at .loop .out) _ (at .loop .inv .2) h (c .before .before .magnitude .ensures ∙ ap natAbs (sym v)) (omega (arith, c .before .if1 .left)),
-      each-more (λ j z. NumberAt (a .w) (a .l .now) (a .at .now) (a .d .now) (a .e .now) (a .g .now) j z) (at .loop .out) (at .loop .k) _ h (rw (v, e) (rw (u .1) at n)) (at .loop .inv .3),
+      each-more (pos 0) (λ j z. NumberAt (a .w) (a .l .now) (a .at .now) (a .d .now) (a .e .now) (a .g .now) j z) (at .loop .out) (at .loop .k) _ h (rw (v, e) (rw (u .1) at n)) (at .loop .inv .3),
     )
 
 same-length-3 : tie.Need-same-length-3 Inv-loop μ-loop

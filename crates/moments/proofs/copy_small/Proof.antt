@@ -7,7 +7,10 @@ use borrow.Author.Needs.{needs}
 use lib.IntN.{ℤ, pos, natAbs}
 use lib.ListN.{length, getD, length-set}
 use lib.Seq.{ext-getD}
-use Rattle.moments.proofs.Laws.{back, back-64, within-of, each-more}
+use Rattle.integers.proofs.Sums.{within-of}
+use Rattle.integers.proofs.I16.{back}
+use Rattle.integers.proofs.I64.{back-64}
+use Rattle.integers.proofs.Stores.{each-more}
 use Rattle.moments.proofs.copy_small.Statement.{statement}
 use Rattle.moments.proofs.copy_small.Tie as tie
 
@@ -69,7 +72,7 @@ loop-again c =
       omega (arith, k),
       length-set (at .loop .out) (at .loop .k) _ ∙ at .loop .inv .1,
       below-more (λ (j : ℕ). natAbs (getD x j (pos 0)) ≤ 64) (at .loop .k) (at .loop .inv .2) (omega (arith, e, c .before .if1 .left)),
-      each-more (λ j z. z ≡ getD x j (pos 0)) (at .loop .out) (at .loop .k) _ (omega (arith, at .loop .inv .1, st .pre, k))
+      each-more (pos 0) (λ j z. z ≡ getD x j (pos 0)) (at .loop .out) (at .loop .k) _ (omega (arith, at .loop .inv .1, st .pre, k))
           (back (c .narrow .result) (search needs) ∙ c .narrow .ensures ∙ back-64 y (search needs)) (at .loop .inv .3),
     )
 

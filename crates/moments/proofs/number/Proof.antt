@@ -9,7 +9,8 @@ use Rattle.integers.specs.declared.Half.the-variants.{Whole, Odd}
 use Rattle.integers.specs.Half.{halfOf, IsHalf}
 use Rattle.integers.proofs.Halves.{half-means}
 use Rattle.moments.specs.Moments.{NumberOf, Numbered}
-use Rattle.moments.proofs.Laws.{back, back-64}
+use Rattle.integers.proofs.I16.{back}
+use Rattle.integers.proofs.I64.{back-64}
 use Rattle.moments.proofs.number.Statement.{statement}
 use Rattle.moments.proofs.number.Tie as tie
 

@@ -16,7 +16,8 @@ use mir.Val.{toZ, ofZ}
 use Rattle.integers.specs.Sums.{Within, sumAbs}
 use Rattle.signs.proofs.Positions.{below-at}
 use Rattle.moments.specs.Moments.{rank, addend, Spread}
-use Rattle.moments.proofs.Laws.{back, rank-lt, rank-few, within-more}
+use Rattle.integers.proofs.Sums.{within-more}
+use Rattle.moments.proofs.Laws.{rank-lt, rank-few}
 use Rattle.moments.proofs.Loops.{Putting, putting-first, putting-next, putting-last, putting-within}
 use Rattle.moments.proofs.put.Statement.{statement}
 use Rattle.moments.proofs.put.Tie as tie

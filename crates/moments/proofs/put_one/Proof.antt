@@ -15,12 +15,12 @@ use mir.Syntax.{w16}
 use mir.Val.{toZ, ofZ}
 use Rattle.integers.specs.Sums.{Within}
 use Rattle.adapted.specs.Split.{countOf}
-use Rattle.moments.proofs.Laws.{back}
+use Rattle.integers.proofs.I16.{back}
 use Rattle.moments.proofs.put_one.Statement.{statement}
 use Rattle.moments.proofs.put_one.Tie as tie
 use Rattle.moments.proofs.put_one.Reads as reads
 use Rattle.moments.proofs.put_one.Lts as lts
-use Rattle.moments.proofs.plus.Reads as plus-reads
+use Rattle.integers.proofs.plus.Reads as plus-reads
 use Rattle.adapted.proofs.count.Reads as count-reads
 
 count-requires : tie.Need-count-requires

@@ -1,23 +1,18 @@
--- `moments::second` meets its contract. Assumes nothing.
+-- `moments::second` meets its contract.
 use native.Mathlib.Omega.{arith}
-use Prim.Native.Nat.{ℕ, suc, _+_, _-_, _*_, _^_, _≤_, _<_}
-use mathlib.Core.Path.{_≡_, refl, sym, ap, _∙_}
+use Prim.Native.Nat.{_-_}
+use mathlib.Core.Path.{_≡_, refl, _∙_}
 use borrow.Author.Needs.{needs}
-use lib.IntN.{ℤ, pos, natAbs, _+ℤ_, _-ℤ_}
-use lib.ListN.{length, getD, set, length-set}
-use mir.Syntax.{w16}
-use mir.Val.{toZ, ofZ}
-use Rattle.moments.specs.Moments.{secondOf, Second}
-use Rattle.moments.proofs.Laws.{back, each-more}
+use lib.IntN.{pos}
+use lib.ListN.{length, getD}
+use Rattle.moments.specs.Moments.{secondOf}
+use Rattle.integers.proofs.I16.{back}
+use Rattle.integers.proofs.Stores.{Writing, writing-next}
 use Rattle.moments.proofs.second.Statement.{statement}
 use Rattle.moments.proofs.second.Tie as tie
-use Rattle.moments.proofs.second.Reads as reads
-use Rattle.moments.proofs.second.Lts as lts
-use Rattle.moments.proofs.second_value.Reads as second-value-reads
 
 abbrev Inv-loop : tie.InvT-loop
-Inv-loop mark d e₀ j₀ e j =
-    (j ≤ length mark) × (length e ≡ length e₀) × ((h : ℕ) → h < j → getD e h (pos 0) ≡ secondOf (getD mark h 0) (getD d h (pos 0)))
+Inv-loop mark d e₀ j₀ e j = Writing (pos 0) (λ h z. z ≡ secondOf (getD mark h 0) (getD d h (pos 0))) (length mark) e₀ e j
 
 abbrev μ-loop : tie.MeasureT-loop
 μ-loop mark d e₀ j₀ e j = length mark - j
@@ -53,13 +48,10 @@ loop-again : tie.Need-loop-again Inv-loop μ-loop
 loop-again c =
     let at = c .before .before .before .before in
     let st = at .before .before in
-    let a = st .args in (
-      omega arith,
-      length-set (at .loop .e) (at .loop .j) _ ∙ at .loop .inv .1,
-      each-more (λ h z. z ≡ secondOf (getD (a .mark .now) h 0) (getD (a .d .now) h (pos 0))) (at .loop .e) (at .loop .j) _ (omega arith)
-          (back (c .second-value .result) (search needs) ∙ c .second-value .ensures ∙ rw (back (getD (a .d .now) (at .loop .j) (pos 0)) (search needs)) refl)
-          (at .loop .inv .2),
-    )
+    let a = st .args in
+    writing-next (pos 0) (λ h z. z ≡ secondOf (getD (a .mark .now) h 0) (getD (a .d .now) h (pos 0))) (length (a .mark .now)) (a .e .now) (at .loop .e) (at .loop .j) _
+    (at .loop .inv) (omega arith) (omega arith)
+    (back (c .second-value .result) (search needs) ∙ c .second-value .ensures ∙ rw (back (getD (a .d .now) (at .loop .j) (pos 0)) (search needs)) refl)
 
 same-length : tie.Need-same-length Inv-loop μ-loop
 same-length c = c .before .loop .inv .1

@@ -5,7 +5,7 @@ use borrow.Author.Tests.{eq-eqb, ne-eqb}
 use borrow.Author.Needs.{needs}
 use lib.IntN.{ℤ, pos, natAbs, _-ℤ_}
 use Rattle.moments.specs.Moments.{secondOf}
-use Rattle.moments.proofs.Laws.{back}
+use Rattle.integers.proofs.I16.{back}
 use Rattle.moments.proofs.second_value.Statement.{statement}
 use Rattle.moments.proofs.second_value.Tie as tie
 

@@ -1,23 +1,18 @@
--- `moments::third` meets its contract. Assumes nothing.
+-- `moments::third` meets its contract.
 use native.Mathlib.Omega.{arith}
-use Prim.Native.Nat.{ℕ, suc, _+_, _-_, _*_, _^_, _≤_, _<_}
-use mathlib.Core.Path.{_≡_, refl, sym, ap, _∙_}
+use Prim.Native.Nat.{_-_}
+use mathlib.Core.Path.{_≡_, refl, _∙_}
 use borrow.Author.Needs.{needs}
-use lib.IntN.{ℤ, pos, natAbs, _+ℤ_, _-ℤ_}
-use lib.ListN.{length, getD, set, length-set}
-use mir.Syntax.{w16}
-use mir.Val.{toZ, ofZ}
-use Rattle.moments.specs.Moments.{thirdOf, Third}
-use Rattle.moments.proofs.Laws.{back, each-more}
+use lib.IntN.{pos}
+use lib.ListN.{length, getD}
+use Rattle.moments.specs.Moments.{thirdOf}
+use Rattle.integers.proofs.I16.{back}
+use Rattle.integers.proofs.Stores.{Writing, writing-next}
 use Rattle.moments.proofs.third.Statement.{statement}
 use Rattle.moments.proofs.third.Tie as tie
-use Rattle.moments.proofs.third.Reads as reads
-use Rattle.moments.proofs.third.Lts as lts
-use Rattle.moments.proofs.third_value.Reads as third-value-reads
 
 abbrev Inv-loop : tie.InvT-loop
-Inv-loop mark d e g₀ j₀ g j =
-    (j ≤ length mark) × (length g ≡ length g₀) × ((h : ℕ) → h < j → getD g h (pos 0) ≡ thirdOf (getD mark h 0) (getD d h (pos 0)) (getD e h (pos 0)))
+Inv-loop mark d e g₀ j₀ g j = Writing (pos 0) (λ h z. z ≡ thirdOf (getD mark h 0) (getD d h (pos 0)) (getD e h (pos 0))) (length mark) g₀ g j
 
 abbrev μ-loop : tie.MeasureT-loop
 μ-loop mark d e g₀ j₀ g j = length mark - j
@@ -59,14 +54,11 @@ loop-again : tie.Need-loop-again Inv-loop μ-loop
 loop-again c =
     let at = c .before .before .before .before .before in
     let st = at .before .before in
-    let a = st .args in (
-      omega arith,
-      length-set (at .loop .g) (at .loop .j) _ ∙ at .loop .inv .1,
-      each-more (λ h z. z ≡ thirdOf (getD (a .mark .now) h 0) (getD (a .d .now) h (pos 0)) (getD (a .e .now) h (pos 0))) (at .loop .g) (at .loop .j) _ (omega arith)
-          (back (c .third-value .result) (search needs) ∙ c .third-value .ensures
-          ∙ rw (back (getD (a .d .now) (at .loop .j) (pos 0)) (search needs), back (getD (a .e .now) (at .loop .j) (pos 0)) (search needs)) refl)
-          (at .loop .inv .2),
-    )
+    let a = st .args in
+    writing-next (pos 0) (λ h z. z ≡ thirdOf (getD (a .mark .now) h 0) (getD (a .d .now) h (pos 0)) (getD (a .e .now) h (pos 0))) (length (a .mark .now)) (a .g .now) (at .loop .g) (at .loop .j) _
+    (at .loop .inv) (omega arith) (omega arith)
+    (back (c .third-value .result) (search needs) ∙ c .third-value .ensures
+    ∙ rw (back (getD (a .d .now) (at .loop .j) (pos 0)) (search needs), back (getD (a .e .now) (at .loop .j) (pos 0)) (search needs)) refl)
 
 same-length : tie.Need-same-length Inv-loop μ-loop
 same-length c = c .before .loop .inv .1

@@ -1,5 +1,5 @@
--- `query::ask` meets its contract. Assumes nothing.
-use mathlib.Core.Path.{_≡_, ap, _∙_}
+-- `query::ask` meets its contract.
+use mathlib.Core.Path.{_≡_, sym, ap, _∙_}
 use mathlib.Core.Bool.{false}
 use native.Mathlib.Omega.{arith}
 use borrow.Author.Needs.{needs, sfits-of}
@@ -10,38 +10,43 @@ use Rattle.query.proofs.Opening.{answer-foreign, answer-own, answer-lim
 use Rattle.query.proofs.ask.Statement.{statement}
 use Rattle.query.proofs.ask.Tie as tie
 
+is-card-number-requires : tie.Need-is-card-number-requires
+is-card-number-requires c κs = search needs
+
 returns : tie.Need-returns
-returns c = answer-foreign _ _ (c .if1 .taken)
+returns c = answer-own _ _ (c .before .before .if1 .taken) (sym (c .before .is-card-number .ensures) ∙ c .if2 .taken)
 
 returns-2 : tie.Need-returns-2
-returns-2 c = answer-own _ _ (c .before .before .if1 .left) (c .if2 .taken)
+returns-2 c = answer-foreign _ _ (c .before .before .if1 .taken) (sym (c .before .is-card-number .ensures) ∙ c .if2 .left)
 
 returns-3 : tie.Need-returns-3
 returns-3 c =
-    let o = c .before .before .before .before .before .before .args .card in
-    answer-limits o _ (c .before .before .if2 .left) (few (o .s) (o .n) (c .if3 .taken))
+    let o = c .before .before .before .before .args .card in
+    answer-limits o _ (c .before .before .if1 .left) (few (o .s) (o .n) (c .if3 .taken))
 
 returns-4 : tie.Need-returns-4
 returns-4 c =
-    let o = c .before .before .before .before .before .before .before .before .args .card in
-    answer-limits o _ (c .before .before .before .before .if2 .left) (many (o .s) (o .n) (c .before .before .if3 .left) (c .if4 .taken))
+    let o = c .before .before .before .before .before .before .args .card in
+    answer-limits o _ (c .before .before .before .before .if1 .left) (many (o .s) (o .n) (c .before .before .if3 .left) (c .if4 .taken))
 
 returns-5 : tie.Need-returns-5
 returns-5 c =
     let b = c .before .before .before .before in
-    let o = b .before .before .before .before .before .before .args .card in
-    answer-limits o _ (b .before .before .if2 .left) (crowded (o .s) (o .n) (b .if3 .left) (c .before .before .if4 .left) (c .if5 .taken))
+    let o = b .before .before .before .before .args .card in
+    answer-limits o _ (b .before .before .if1 .left) (crowded (o .s) (o .n) (b .if3 .left) (c .before .before .if4 .left) (c .if5 .taken))
 
 power-requires : tie.Need-power-requires
 power-requires c κs = search needs
 
--- after the five tests
+-- after the tests of the card
 within : (c : tie.Else5) →
-    let o = c .before .before .before .before .before .before .before .before .before .before .args .card in
+    let o = c .before .before .before .before .before .before .before .before .args .card in
     (o .refusal ≡ 0) × (unlimited o ≡ false)
 within c =
-    let o = c .before .before .before .before .before .before .before .before .before .before .args .card in
-    (c .before .before .before .before .before .before .if2 .left, limits (o .s) (o .n) (c .before .before .before .before .if3 .left) (c .before .before .if4 .left) (c .if5 .left))
+    let o = c .before .before .before .before .before .before .before .before .args .card in (
+      c .before .before .before .before .before .before .if1 .left,
+      limits (o .s) (o .n) (c .before .before .before .before .if3 .left) (c .before .before .if4 .left) (c .if5 .left),
+    )
 
 returns-6 : tie.Need-returns-6
 returns-6 c = let w = within (c .before .before .before) in answer-product _ _ (w .0) (w .1) (omega arith)
@@ -51,9 +56,11 @@ sum-requires c κs = search needs
 
 returns-7 : tie.Need-returns-7
 returns-7 c =
-    let s = c .before .before .before .before .before .before .before .before .before .before .before .before .before .before in
+    let s = c .before .before .before .before .before .before .before .before .before .before .before .before in
     let w = within (c .before .before .before .before) in
     ap Answer.Number (toZ-ofZ (sfits-of (c .sum .ok)) ∙ c .sum .ensures) ∙ answer-number (s .args .card) (s .args .a .0) (w .0) (w .1) (omega arith)
 
 pub ask-spec : {M : Type 1} → statement M
-ask-spec = tie.close (tie.spec returns returns-2 returns-3 returns-4 returns-5 power-requires returns-6 sum-requires returns-7)
+ask-spec =
+    tie.close
+    (tie.spec is-card-number-requires returns returns-2 returns-3 returns-4 returns-5 power-requires returns-6 sum-requires returns-7)

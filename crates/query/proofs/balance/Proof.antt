@@ -1,4 +1,4 @@
--- `query::balance` meets its contract. Assumes nothing.
+-- `query::balance` meets its contract.
 use mathlib.Core.Path.{_≡_, _∙_}
 use Prim.Native.Nat.{ℕ, _*_, _≤_, _<_, _^_}
 use native.Mathlib.Omega.{arith}

@@ -1,16 +1,19 @@
--- `query::evaluate` meets its contract: j polynomials have their words. Assumes nothing.
-use mathlib.Core.Path.{_≡_, ap, _∙_}
+-- `query::evaluate` meets its contract: j polynomials have their words.
+use mathlib.Core.Path.{_≡_, sym, ap, _∙_}
 use Prim.Native.Nat.{_-_, _≤_, _<_}
 use native.Mathlib.Omega.{arith}
 use borrow.Author.Needs.{needs}
 use Rattle.layout.specs.Format.{offset}
+use Rattle.layout.specs.Contents.{contentsOf}
+use Rattle.layout.proofs.Contents.{points-long}
 use Rattle.card.proofs.Places.{offset-place}
 use Rattle.query.proofs.Opening.{Filled, filled-none, filled-next, evaluated-is}
 use Rattle.query.proofs.evaluate.Statement.{statement}
 use Rattle.query.proofs.evaluate.Tie as tie
 
 abbrev Inv-loop : tie.InvT-loop
-Inv-loop card s n from positive₀ negative₀ j₀ positive negative j = (j ≤ s) × Filled card 1 j positive × Filled card 2 j negative
+Inv-loop card s n from positive₀ negative₀ j₀ positive negative j =
+    (j ≤ s) × Filled (contentsOf card) 1 j positive × Filled (contentsOf card) 2 j negative
 
 abbrev μ-loop : tie.MeasureT-loop
 μ-loop card s n from positive₀ negative₀ j₀ positive negative j = s - j
@@ -59,7 +62,8 @@ returns c =
     let s = c .before .before .before .before in
     let l = c .before .loop in
     let e : l .j ≡ s .args .s = omega arith in
-    evaluated-is (s .args .card .now) _ _ _ _ (s .pre .1) (s .pre .2) (rw e at (l .inv .1)) (rw e at (l .inv .2))
+    evaluated-is (contentsOf (s .args .card .now)) _ _ _ _ (s .pre .1) (s .pre .2 ∙ sym (points-long (s .args .card .now)))
+    (rw e at (l .inv .1)) (rw e at (l .inv .2))
 
 pub evaluate-spec : {M : Type 1} → statement M
 evaluate-spec =

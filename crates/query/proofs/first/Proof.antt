@@ -1,4 +1,4 @@
--- `query::first` meets its contract. Assumes nothing.
+-- `query::first` meets its contract.
 use mathlib.Core.Path.{_≡_, refl, ap, _∙_}
 use Prim.Native.Nat.{ℕ, _*_, _-_, _%_, _^_, _<_}
 use native.Mathlib.Omega.{arith}

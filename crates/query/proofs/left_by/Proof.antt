@@ -1,4 +1,4 @@
--- `query::left_by` meets its contract. Assumes nothing.
+-- `query::left_by` meets its contract.
 use mathlib.Core.Path.{refl}
 use borrow.Author.Tests.{eq-eqb, ne-eqb}
 use Rattle.query.proofs.left_by.Statement.{statement}

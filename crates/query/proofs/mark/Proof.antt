@@ -1,33 +1,53 @@
--- `query::mark` meets its contract: the points from k on have their bits, and those below are to come. Assumes nothing.
-use mathlib.Core.Path.{_≡_, ap, _∙_}
+-- `query::mark` meets its contract: the words hold the bits of the points from k on.
+use mathlib.Core.Path.{_≡_, sym, ap, _∙_}
 use mathlib.Core.List.{List}
 use Prim.Native.Nat.{ℕ, _+_, _*_, _-_, _^_, _≤_, _<_}
 use native.Mathlib.Omega.{arith}
 use borrow.Author.Needs.{needs, sfits-of}
 use lib.IntN.{ℤ, natAbs}
+use lib.ListN.{length, drop, length-map}
 use mir.Syntax.{w64}
 use mir.Val.{SFits, toZ, ofZ}
 use mir.Facts.{toZ-ofZ}
+use Rattle.refusals.specs.Limits.{mostPoints}
+use Rattle.signs.specs.Signs.{sign-digit}
 use Rattle.signs.specs.Bits.{bitOf}
-use Rattle.signs.proofs.Digitwise.{bit-le}
 use Rattle.layout.specs.Format.{polynomials, points, offset, points-at, point}
-use Rattle.layout.specs.Values.{value-of, evaluate, polynomial, sign-digit}
+use Rattle.polynomials.specs.Values.{evaluate}
+use Rattle.layout.specs.Values.{value-of, polynomial}
+use Rattle.layout.specs.Contents.{contentsOf}
+use Rattle.layout.proofs.Contents.{points-long, map-point-at}
 use Rattle.card.specs.Sound.{Sound}
 use Rattle.card.proofs.Places.{offset-place, body-place, body-within, point-place, point-within, point-value}
-use Rattle.query.specs.Opened.{wordOf, signBit, signWord}
-use Rattle.query.proofs.Words.{word-none, word-turn, word-room, word-all}
+use Rattle.query.specs.Opened.{wordOf, pointBits}
+use Rattle.query.proofs.Words.{word-none, word-turn, word-room}
+use Rattle.query.proofs.Opening.{bits-small}
 use Rattle.query.proofs.mark.Statement.{statement}
 use Rattle.query.proofs.mark.Tie as tie
 
+abbrev bits : List ℕ → ℕ → ℕ → List ℕ
+bits c d j = pointBits (contentsOf c) d j
+
 abbrev Inv-loop : tie.InvT-loop
 Inv-loop card j from n p positive₀ negative₀ k₀ positive negative k =
-    (k ≤ n) × (positive * 2 ^ k + wordOf (signBit card 1 j) k ≡ signWord card 1 j) × (negative * 2 ^ k + wordOf (signBit card 2 j) k ≡ signWord card 2 j)
+    (k ≤ n) × (positive ≡ wordOf (drop k (bits card 1 j))) × (negative ≡ wordOf (drop k (bits card 2 j)))
 
 abbrev μ-loop : tie.MeasureT-loop
 μ-loop card j from n p positive₀ negative₀ k₀ positive negative k = k
 
-bit-small : (c : List ℕ) (d j k : ℕ) → signBit c d j k < 2
-bit-small c d j k = omega (arith, bit-le (sign-digit (value-of c j k)) d)
+bits-long : (c : List ℕ) (d j : ℕ) → length (bits c d j) ≡ points c
+bits-long c d j = length-map (contentsOf c .points) _ ∙ points-long c
+
+-- one turn: the bit of point k − 1, by the digit t of the sign there, for which there is room
+module _ (c : List ℕ) (d j k x : ℕ) (h : 0 < k) (e : x ≡ wordOf (drop k (bits c d j))) where
+  turned : (t b : ℕ) → k ≤ points c → b ≡ bitOf t d → t ≡ sign-digit (value-of c j (k - 1)) → 2 * x + b ≡ wordOf (drop (k - 1) (bits c d j))
+  turned t b g eb et =
+      word-turn (bits c d j) k x b h (omega (arith, bits-long c d j))
+      (eb ∙ ap (λ (y : ℕ). bitOf y d) et
+      ∙ sym (map-point-at c (λ y. bitOf (sign-digit (contentsOf c .value j y)) d) (k - 1) 0 (omega arith))) e
+
+  roomy : points c ≤ mostPoints → 2 * x + 1 < 2 ^ 64
+  roomy g = word-room (bits c d j) (bits-small (contentsOf c) d j) k x h e (omega (arith, bits-long c d j))
 
 -- ---- what a turn knows: its point, and the digit of the sign there
 
@@ -48,7 +68,13 @@ polynomial-requires c κs = let s = c .before .before in rw (c .offset .ensures)
 loop-holds : tie.Need-loop-holds Inv-loop μ-loop
 loop-holds c =
     let s = c .before .before .before in
-    (omega arith, word-none _ (bit-small _ 1 _) _ _ (s .pre .3), word-none _ (bit-small _ 2 _) _ _ (s .pre .3))
+    let w = s .args .card .now in
+    let j = s .args .j in
+    let n = s .args .n in (
+      omega arith,
+      word-none (bits w 1 j) n (omega (arith, bits-long w 1 j, s .pre .3)),
+      word-none (bits w 2 j) n (omega (arith, bits-long w 2 j, s .pre .3)),
+    )
 
 sub-k : tie.Need-sub-k Inv-loop μ-loop
 sub-k c = search needs
@@ -81,10 +107,12 @@ turn c =
     let p = c .before .before .before .before .before in
     let x = c .before .point in
     let h : 0 < l .k = omega arith in
-    let n = s .pre .0 .n-most in
+    let w = s .args .card .now in
+    let j = s .args .j in
+    let m = s .pre .0 .n-most in
     record {
       digit = digit-is _ (s .pre .0) (s .args .j) _ (l .k - 1) _ (omega arith) (s .pre .2) (x .ensures) (sfits-of (x .ok)) _ _ _ (s .pre .1) (p .polynomial .ensures) (p .before .offset .ensures) (c .sign .ensures);
-      room = (word-room _ (bit-small _ 1 _) _ _ _ h (l .inv .1) n, word-room _ (bit-small _ 2 _) _ _ _ h (l .inv .2) n);
+      room = (roomy w 1 j (l .k) _ h (l .inv .1) m, roomy w 2 j (l .k) _ h (l .inv .2) m);
     }
 
 mul-positive : tie.Need-mul-positive Inv-loop μ-loop
@@ -118,17 +146,21 @@ loop-again : tie.Need-loop-again Inv-loop μ-loop
 loop-again c =
     let t = turn (c .before .before) in
     let l = c .before .before .before .before .before .before .loop in
-    let h : 0 < l .k = omega arith in (
+    let s = c .before .before .before .before .before .before .before .before .before .before in
+    let h : 0 < l .k = omega arith in
+    let w = s .args .card .now in
+    let j = s .args .j in
+    let g : l .k ≤ points w = omega arith in (
       omega arith,
-      word-turn _ (bit-small _ 1 _) _ (l .k) (l .positive) _ h (c .before .bit .ensures .0 ∙ ap (λ (x : ℕ). bitOf x 1) (t .digit)) (l .inv .1),
-      word-turn _ (bit-small _ 2 _) _ (l .k) (l .negative) _ h (c .bit2 .ensures .0 ∙ ap (λ (x : ℕ). bitOf x 2) (t .digit)) (l .inv .2),
+      turned w 1 j (l .k) (l .positive) h (l .inv .1) _ _ g (c .before .bit .ensures .0) (t .digit),
+      turned w 2 j (l .k) (l .negative) h (l .inv .2) _ _ g (c .bit2 .ensures .0) (t .digit),
     )
 
 returns : tie.Need-returns Inv-loop μ-loop
 returns c =
     let l = c .before .loop in
     let e : l .k ≡ 0 = omega arith in
-    (word-all _ (bit-small _ 1 _) _ _ _ e (l .inv .1), word-all _ (bit-small _ 2 _) _ _ _ e (l .inv .2))
+    (rw e at (l .inv .1), rw e at (l .inv .2))
 
 pub mark-spec : {M : Type 1} → statement M
 mark-spec =

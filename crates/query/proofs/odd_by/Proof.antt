@@ -1,4 +1,4 @@
--- `query::odd_by` meets its contract. Assumes nothing.
+-- `query::odd_by` meets its contract.
 use mathlib.Core.Path.{refl}
 use borrow.Author.Tests.{eq-eqb, ne-eqb}
 use Rattle.query.proofs.odd_by.Statement.{statement}

@@ -1,4 +1,4 @@
--- `query::open` meets its contract. Assumes nothing.
+-- `query::open` meets its contract.
 use mathlib.Core.Path.{sym, _∙_}
 use borrow.Author.Needs.{needs}
 use Rattle.card.proofs.Sound.{unrefused}
@@ -22,9 +22,6 @@ evaluate-requires c κs = let t = read-as c in (t .card, t .s-is, t .n-is)
 enum-known-m : tie.Need-enum-known-m
 enum-known-m c = search needs
 
-cast-t7 : tie.Need-cast-t7
-cast-t7 c = search needs
-
 returns : tie.Need-returns
 returns c = c .evaluate .ensures ∙ sym (opened-sound _ (unrefused _ (read-as (c .before) .card)))
 
@@ -34,4 +31,4 @@ returns-2 c = opened-read _ _ (sym (c .before .before .before .read .ensures) �
 pub open-spec : {M : Type 1} → statement M
 open-spec =
     tie.close
-    (tie.spec read-requires enum-known-s evaluate-requires enum-known-m cast-t7 returns returns-2)
+    (tie.spec read-requires enum-known-s evaluate-requires enum-known-m returns returns-2)

@@ -1,4 +1,4 @@
--- `query::query` meets its contract. Assumes nothing.
+-- `query::query` meets its contract.
 use mathlib.Core.Path.{ap, _∙_}
 use borrow.Author.Needs.{needs}
 use Rattle.query.specs.declared.Opened.{Opened}

@@ -1,6 +1,6 @@
--- `query::sum` meets its contract: the digits passed are in the two words, those left below. Assumes nothing.
+-- `query::sum` meets its contract: the digits passed are in the two words, those left below.
 use mathlib.Core.Path.{_≡_, _∙_}
-use Prim.Native.Nat.{ℕ, suc, _-_, _+_, _*_, _%_, _^_, _≤_, _<_}
+use Prim.Native.Nat.{suc, _-_, _+_, _*_, _%_, _^_, _≤_, _<_}
 use native.Mathlib.Omega.{arith}
 use native.Mathlib.Nat.{one-le-pow, pow-suc, pow-le-pow-right, div-add-mod', mod-lt}
 use borrow.Author.Needs.{needs, sfits-of}

@@ -18,7 +18,7 @@ use Rattle.signs.proofs.Positions.{below-at}
 use Rattle.signs.specs.Signs.{sign, weighted}
 use Rattle.signs.specs.Bits.{places, signBits}
 use Rattle.remains.specs.Remains.{bitSum, digitSum, Gathered, other0}
-use Rattle.moments.proofs.Laws.{back, fits-small}
+use Rattle.integers.proofs.I16.{back, fits-small}
 use Rattle.remains.proofs.Gathering.{Gathering, gathering-first, gathering-next, gathering-last}
 use Rattle.remains.proofs.gather.Statement.{statement}
 use Rattle.remains.proofs.gather.Tie as tie

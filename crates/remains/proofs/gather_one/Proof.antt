@@ -13,7 +13,7 @@ use lib.IntN.{ℤ, pos, natAbs, _+ℤ_, _-ℤ_, _*ℤ_}
 use lib.ListN.{length, getD, take, drop, set, length-set}
 use mir.Syntax.{w16}
 use mir.Val.{toZ, ofZ}
-use Rattle.moments.proofs.Laws.{back}
+use Rattle.integers.proofs.I16.{back}
 use Rattle.remains.proofs.Sums.{zero-bits, other-bits}
 use Rattle.remains.proofs.gather_one.Statement.{statement}
 use Rattle.remains.proofs.gather_one.Tie as tie

@@ -18,15 +18,16 @@ use Rattle.signs.proofs.Positions.{below-at}
 use Rattle.integers.proofs.Abs.{abs-sum, abs-*-le}
 use Rattle.signs.specs.Bits.{signBits}
 use Rattle.remains.specs.Remains.{bitSum}
-use Rattle.moments.proofs.Laws.{back, back-64}
+use Rattle.integers.proofs.I16.{back}
+use Rattle.integers.proofs.I64.{back-64}
 use Rattle.remains.proofs.Sums.{sign-small}
 use Rattle.remains.proofs.Gathering.{query-next, query-last}
 use Rattle.remains.proofs.query.Statement.{statement}
 use Rattle.remains.proofs.query.Tie as tie
 use Rattle.remains.proofs.query.Reads as reads
 use Rattle.remains.proofs.query.Lts as lts
-use Rattle.moments.proofs.plus.Reads as plus-reads
-use Rattle.remains.proofs.scale.Reads as scale-reads
+use Rattle.integers.proofs.plus.Reads as plus-reads
+use Rattle.integers.proofs.scale.Reads as scale-reads
 use Rattle.signs.proofs.sign_by.Reads as sign-by-reads
 
 abbrev Inv-loop : tie.InvT-loop
@@ -83,7 +84,7 @@ scale-requires c κs =
     let st = at .before .before .before in
     let x = getD (st .args .v .now) (at .loop .j) (pos 0) in
     rw (back-64 (c .sign-by .result) (search needs), back x (search needs), c .sign-by .ensures)
-    (sign-small _ _ _ _, st .pre .3 .at (at .loop .j))
+    (sign-small _ _ _ _, omega (arith, st .pre .3 .at (at .loop .j)))
 
 plus-requires : tie.Need-plus-requires Inv-loop μ-loop
 plus-requires c κs =

@@ -1,12 +1,13 @@
--- `remains::remain` meets its contract. Assumes nothing.
+-- `remains::remain` meets its contract.
 use native.Mathlib.Omega.{arith}
 use Prim.Native.Nat.{ℕ, _+_, _^_, _≤_}
 use mathlib.Core.Path.{_≡_, refl, sym, ap, _∙_, subst}
 use lib.ListN.{length}
 use Rattle.signs.specs.Adapted.{adapted}
+use Rattle.signs.proofs.Powers.{power-most}
 use Rattle.signs.proofs.Size.{as-many}
 use Rattle.remains.specs.Remains.{Rests}
-use Rattle.remains.proofs.Gathering.{copied-rests, adapted-list, adapted-small, pow-eight}
+use Rattle.remains.proofs.Gathering.{copied-rests, adapted-list, adapted-small}
 use borrow.Author.Needs.{needs}
 use Rattle.remains.proofs.remain.Statement.{statement}
 use Rattle.remains.proofs.remain.Tie as tie
@@ -32,7 +33,7 @@ returns c =
 adapted-requires : tie.Need-adapted-requires
 adapted-requires c κs =
     let st = c .before .before .before .before .before .before in
-    ((st .pre .0 .0, omega (arith, pow-eight (st .args .i) (st .pre .0 .0))), ((st .pre .0 .1, st .pre .0 .2), (st .pre .0 .3, omega (arith, st .pre .1 .0 .1))))
+    ((st .pre .0 .0, omega (arith, power-most (st .args .i) (st .pre .0 .0))), ((st .pre .0 .1, st .pre .0 .2), (st .pre .0 .3, omega (arith, st .pre .1 .0 .1))))
 
 rests-requires : tie.Need-rests-requires
 rests-requires c κs =

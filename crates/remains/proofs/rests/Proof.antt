@@ -1,26 +1,25 @@
--- `remains::rests` meets its contract. Assumes nothing.
+-- `remains::rests` meets its contract.
 use native.Mathlib.Omega.{arith}
 use Prim.Native.Nat.{ℕ, suc, _+_, _-_, _*_, _^_, _≤_, _<_}
 use mathlib.Core.Path.{_≡_, refl, sym, ap, _∙_}
 use borrow.Author.Needs.{needs}
 use lib.IntN.{ℤ, pos, natAbs, _+ℤ_, _-ℤ_}
-use lib.ListN.{length, getD, set, length-set}
-use mir.Syntax.{w16}
-use mir.Val.{toZ, ofZ}
+use lib.ListN.{length, getD}
 use Rattle.signs.proofs.Positions.{below-at}
 use Rattle.remains.specs.Remains.{bitSum, digitSum, Rests}
-use Rattle.moments.proofs.Laws.{back, each-more}
+use Rattle.integers.proofs.I16.{back}
+use Rattle.integers.proofs.Stores.{Writing, writing-next}
 use Rattle.remains.proofs.rests.Statement.{statement}
 use Rattle.remains.proofs.rests.Tie as tie
 use Rattle.remains.proofs.rests.Reads as reads
 use Rattle.remains.proofs.rests.Lts as lts
-use Rattle.moments.proofs.minus.Reads as minus-reads
+use Rattle.integers.proofs.minus.Reads as minus-reads
 use Rattle.remains.proofs.query.Reads as query-reads
 use Rattle.signs.proofs.digits_of.Reads as digits-of-reads
 
 abbrev Inv-loop : tie.InvT-loop
 Inv-loop x a i ones twos v r₀ k₀ r k =
-    (k ≤ length a) × (length r ≡ length r₀) × ((h : ℕ) → h < k → getD r h (pos 0) ≡ getD x h (pos 0) -ℤ digitSum i (getD a h 0) ones twos v)
+    Writing (pos 0) (λ h z. z ≡ getD x h (pos 0) -ℤ digitSum i (getD a h 0) ones twos v) (length a) r₀ r k
 
 abbrev μ-loop : tie.MeasureT-loop
 μ-loop x a i ones twos v r₀ k₀ r k = length a - k
@@ -75,14 +74,12 @@ loop-again c =
     let a = st .args in
     let q = c .before .query in
     let d = c .before .before .digits-of in
-    let t = c .before .before .before .before .before .loop-test .taken in (
-      omega (arith, t),
-      length-set (at .loop .r) (at .loop .k) _ ∙ at .loop .inv .1,
-      each-more (λ h z. z ≡ getD (a .x .now) h (pos 0) -ℤ digitSum (a .i) (getD (a .a .now) h 0) (a .ones .now) (a .twos .now) (a .v .now)) (at .loop .r) (at .loop .k) _ (omega (arith, t, at .loop .inv .1, st .pre .0 .3))
-          (back (c .minus .result) (search needs) ∙ c .minus .ensures
-          ∙ rw (back (getD (a .x .now) (at .loop .k) (pos 0)) (search needs), back (q .result) (search needs), q .ensures .0, d .ensures .0, d .ensures .1) refl)
-          (at .loop .inv .2),
-    )
+    writing-next (pos 0)
+    (λ h z. z ≡ getD (a .x .now) h (pos 0) -ℤ digitSum (a .i) (getD (a .a .now) h 0) (a .ones .now) (a .twos .now) (a .v .now))
+    (length (a .a .now)) (a .r .now) (at .loop .r) (at .loop .k) _ (at .loop .inv)
+    (c .before .before .before .before .before .loop-test .taken) (omega (arith, st .pre .0 .3))
+    (back (c .minus .result) (search needs) ∙ c .minus .ensures
+    ∙ rw (back (getD (a .x .now) (at .loop .k) (pos 0)) (search needs), back (q .result) (search needs), q .ensures .0, d .ensures .0, d .ensures .1) refl)
 
 same-length : tie.Need-same-length Inv-loop μ-loop
 same-length c = c .before .loop .inv .1

@@ -1,4 +1,4 @@
--- `solutions::posed` meets its contract. Assumes nothing.
+-- `solutions::posed` meets its contract.
 use Prim.Native.Nat.{ℕ, _+_, _-_, _^_, _≤_, _<_}
 use native.Mathlib.Omega.{arith}
 use mathlib.Core.Path.{_≡_, refl, sym, ap, _∙_}
@@ -13,8 +13,8 @@ use Rattle.solutions.proofs.posed.Tie as tie
 use Rattle.solutions.proofs.posed.Reads as reads
 use Rattle.solutions.proofs.posed.Lts as lts
 use Rattle.signs.proofs.power.Reads as power-reads
-use Rattle.solutions.proofs.below.Reads as below-reads
-use Rattle.solutions.proofs.rising.Reads as rising-reads
+use Rattle.signs.proofs.below.Reads as below-reads
+use Rattle.signs.proofs.rising.Reads as rising-reads
 use Rattle.signs.specs.Lists.{isBelow}
 
 returns : tie.Need-returns

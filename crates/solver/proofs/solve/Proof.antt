@@ -1,4 +1,4 @@
--- `solver::solve` meets its contract. Assumes nothing.
+-- `solver::solve` meets its contract.
 use Prim.Native.Nat.{ℕ, _+_, _-_, _^_, _≤_, _<_}
 use native.Mathlib.Omega.{arith}
 use mathlib.Core.Path.{_≡_, refl, sym, ap, _∙_}
@@ -13,7 +13,7 @@ use Rattle.solutions.specs.Posing.{isList}
 use Rattle.solutions.proofs.Posing.{list-true}
 use Rattle.solver.specs.Solving.{solveOf}
 use Rattle.solver.specs.declared.Solved.{Solved}
-use Rattle.solver.proofs.Answers.{refused-3-none, refused-3-many, refused-11, refused-15, well-posed}
+use Rattle.solver.proofs.Answers.{refused-none, refused-many, refused-list, refused-short, well-posed}
 use Rattle.solver.proofs.solve.Statement.{statement}
 use Rattle.solver.proofs.solve.Tie as tie
 use Rattle.solver.proofs.solve.Reads as reads
@@ -24,13 +24,13 @@ use Rattle.solver.proofs.solve_to.Reads as solve-to-reads
 returns : tie.Need-returns
 returns c =
     let a = c .before .before .args in
-    let e = refused-3-none (a .s) (a .patterns .now) (a .numbers .now) (a .out .now) (c .if1 .taken) in
+    let e = refused-none (a .s) (a .patterns .now) (a .numbers .now) (a .out .now) (c .if1 .taken) in
     (sym (ap (λ p. p .0) e), sym (ap (λ p. p .1) e))
 
 returns-2 : tie.Need-returns-2
 returns-2 c =
     let a = c .before .before .before .args in
-    let e = refused-3-many (a .s) (a .patterns .now) (a .numbers .now) (a .out .now) (c .if2 .taken) in
+    let e = refused-many (a .s) (a .patterns .now) (a .numbers .now) (a .out .now) (c .if2 .taken) in
     (sym (ap (λ p. p .0) e), sym (ap (λ p. p .1) e))
 
 posed-requires : tie.Need-posed-requires
@@ -39,13 +39,13 @@ posed-requires c κs = search needs
 returns-3 : tie.Need-returns-3
 returns-3 c =
     let a = c .before .before .before .before .before .args in
-    let e = refused-11 (a .s) (a .patterns .now) (a .numbers .now) (a .out .now) (c .before .before .before .if1 .left) (c .before .before .if2 .left) (sym (c .before .posed .ensures) ∙ not-true (c .before .posed .result) (c .if3 .taken)) in
+    let e = refused-list (a .s) (a .patterns .now) (a .numbers .now) (a .out .now) (c .before .before .before .if1 .left) (c .before .before .if2 .left) (sym (c .before .posed .ensures) ∙ not-true (c .before .posed .result) (c .if3 .taken)) in
     (sym (ap (λ p. p .0) e), sym (ap (λ p. p .1) e))
 
 returns-4 : tie.Need-returns-4
 returns-4 c =
     let a = c .before .before .before .before .before .before .args in
-    let e = refused-15 (a .s) (a .patterns .now) (a .numbers .now) (a .out .now) (c .before .before .before .before .if1 .left) (c .before .before .before .if2 .left) (sym (c .before .before .posed .ensures) ∙ not-false (c .before .before .posed .result) (c .before .if3 .left)) (c .if4 .taken) in
+    let e = refused-short (a .s) (a .patterns .now) (a .numbers .now) (a .out .now) (c .before .before .before .before .if1 .left) (c .before .before .before .if2 .left) (sym (c .before .before .posed .ensures) ∙ not-false (c .before .before .posed .result) (c .before .if3 .left)) (c .if4 .taken) in
     (sym (ap (λ p. p .0) e), sym (ap (λ p. p .1) e))
 
 array-borrow-prefix-x : tie.Need-array-borrow-prefix-x
