@@ -7,12 +7,6 @@ use Rattle.tarski.proofs.FlatSteps.{flat-answered, step-late}
 use Rattle.tarski.proofs.answered.Statement.{statement}
 use Rattle.tarski.proofs.answered.Tie as tie
 
-answer-requires : tie.Need-answer-requires
-answer-requires c κs = search needs
-
-flat-step-requires : tie.Need-flat-step-requires
-flat-step-requires c κs = search needs
-
 returns : tie.Need-returns
 returns c =
     let st = c .before .before .before in
@@ -20,4 +14,5 @@ returns c =
     (flat-answered _ _ _ _ (c .flat-step .ensures) next, λ e. c .before .before .answer .ensures .1 (step-late _ (sym (c .flat-step .ensures) ∙ e)))
 
 pub answered-spec : {M : Type 1} → statement M
-answered-spec = tie.close (tie.spec answer-requires flat-step-requires returns)
+answered-spec =
+    tie.close (tie.spec (λ c κs. search needs) (λ c κs. search needs) returns)

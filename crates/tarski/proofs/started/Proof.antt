@@ -8,12 +8,6 @@ use Rattle.tarski.proofs.FlatSteps.{kept-refused, kept-begun, refused-k
 use Rattle.tarski.proofs.started.Statement.{statement}
 use Rattle.tarski.proofs.started.Tie as tie
 
-start-requires : tie.Need-start-requires
-start-requires c κs = search needs
-
-flat-step-requires : tie.Need-flat-step-requires
-flat-step-requires c κs = search needs
-
 returns : tie.Need-returns
 returns c =
     let st = c .before .before .before .before in
@@ -29,4 +23,5 @@ returns-2 c =
     )
 
 pub started-spec : {M : Type 1} → statement M
-started-spec = tie.close (tie.spec start-requires flat-step-requires returns returns-2)
+started-spec =
+    tie.close (tie.spec (λ c κs. search needs) (λ c κs. search needs) returns returns-2)
