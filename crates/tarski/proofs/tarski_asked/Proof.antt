@@ -30,9 +30,10 @@ use denote.Triple.Walked.{says, Stays, stay-none-ref, walkOf, goes-none-ref, end
 use denote.Exit.{yes}
 use Rattle.determination.specs.Record.{stateOf}
 use Rattle.determination.specs.declared.Run.{Run}
-use Rattle.determination.proofs.Thin.{Data, Good, owned-of, calls-plain}
+use Rattle.determination.proofs.Lent.{run as run-piece}
+use Rattle.determination.proofs.Pieces.{pieceOf}
+use Rattle.determination.proofs.Thin.{Data, Good, unsigned, owned-of, looked, shut, calls-plain}
 use Rattle.determination.proofs.Run as T
-use Rattle.tarski.proofs.Lent.{unsigned, RunD, looked, shut}
 use Rattle.determination.proofs.asked as take
 use Rattle.determination.proofs.asked.Symbol as take-def
 use Rattle.determination.proofs.asked.Symbol.{name as #determination·asked}
@@ -44,7 +45,7 @@ use Rattle.tarski.proofs.tarski_asked.Code as code
 
 -- the types of the walk, with their laws: the record, and the result
 abbrev D : Data
-D = RunD
+D = pieceOf run-piece
 
 abbrev NumD : Data
 NumD = unsigned w64

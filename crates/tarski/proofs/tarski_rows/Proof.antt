@@ -40,11 +40,12 @@ use denote.Exit.{yes}
 use Rattle.runs.specs.Run.{copyOf}
 use Rattle.determination.specs.Record.{stateOf}
 use Rattle.determination.specs.declared.Run.{Run}
-use Rattle.determination.proofs.Thin.{Data, struct, Good, owned-of}
+use Rattle.determination.proofs.Lent.{run as run-piece}
+use Rattle.determination.proofs.Pieces.{pieceOf}
+use Rattle.determination.proofs.Thin.{Data, struct, Good, owned-of, looked, shut}
 use Rattle.determination.proofs.Run as T
 use Rattle.tarski.specs.Flat.{leftOf}
 use Rattle.tarski.specs.declared.FlatCopied.{FlatCopied}
-use Rattle.tarski.proofs.Lent.{RunD, looked, shut}
 use Rattle.tarski.proofs.FlatCopied as F
 use Rattle.tarski.proofs.FlatCopied.Laws as F′
 use Rattle.tarski.proofs.rows_to as take
@@ -57,6 +58,9 @@ use Rattle.tarski.proofs.tarski_rows.Statement as stated
 use Rattle.tarski.proofs.tarski_rows.Code as code
 
 -- the result's type, with its laws
+abbrev RunD : Data
+RunD = pieceOf run-piece
+
 abbrev CopiedD : Data
 CopiedD = struct F.the-type F′.the-laws F′.the-plain F′.the-copy
 
