@@ -45,12 +45,20 @@ module _ (d : Piece) (e : Passed) (r : Piece) (f : Name) (φ : d .lone .Denot �
     lifetimes = 1;
     outlives = [];
     params = 2;
-    locals = local (r .lone .ty) valueLocal ∷ local (tyRef (named 0) imm (pointee (d .lone .written))) valueLocal ∷ local (e .lone .ty) valueLocal ∷ local (d .lone .ty) valueLocal ∷ [];
-    body = seq (assign (place 3 []) (rvOpd (copy (place 1 (deref (d .lone .ty) ∷ []))))) (seq (call f (copy (place 3 []) ∷ copy (place 2 []) ∷ []) (place 0 [])) return);
+    locals = local (r .lone .ty) valueLocal ∷ local (tyRef (named 0) imm (pointee (d .lone .written))) valueLocal ∷ local (e .lone .ty)
+        valueLocal ∷ local (d .lone .ty) valueLocal ∷ [];
+    body = seq (assign (place 3 []) (rvOpd (copy (place 1 (deref (d .lone .ty) ∷ [])))))
+        (seq (call f (copy (place 3 []) ∷ copy (place 2 []) ∷ []) (place 0 [])) return);
   }
 
   abbrev sig : Signature
-  sig = record { lifetimes = 1; outlives = []; params = shrRefTo (0 ∷ []) tt (plain (λ _. D .row)) ∷ plain (λ _. E .row) ∷ []; result = plain (λ _. R .row) }
+  sig = record {
+    lifetimes = 1;
+    outlives = [];
+    params = shrRefTo (0 ∷ []) tt (plain (λ _. D .row)) ∷ plain (λ _. E .row) ∷ [];
+    result =
+        plain (λ _. R .row);
+  }
 
   abbrev ended : Ended
   ended = record { signature = sig; kept = (yes, (yes, tt)) }
@@ -74,7 +82,8 @@ module _ (d : Piece) (e : Passed) (r : Piece) (f : Name) (φ : d .lone .Denot �
   abbrev Take : {M : Type 1} (𝓤 : URA M) (H : Heap 𝓤) (A : Atoms 𝓤) → Contract 𝓤
   Take 𝓤 H A = tripleOf 𝓤 H A sig-f (closing 𝓤 H A ended-f (clauses-f 𝓤))
 
-  module _ {M : Type 1} (𝓤 : URA M) (H : Heap 𝓤) (A : Atoms 𝓤) (W : Given 𝓤 H A) (κ : Lft) (q : Share) (x : RefT (d .lone .Denot)) (z : e .lone .Denot) (z-is : Good E z) where
+  module _ {M : Type 1} (𝓤 : URA M) (H : Heap 𝓤) (A : Atoms 𝓤) (W : Given 𝓤 H A) (κ : Lft) (q : Share) (x : RefT (d .lone .Denot))
+      (z : e .lone .Denot) (z-is : Good E z) where
     abbrev h : d .lone .Denot
     h = x .now
 
@@ -97,44 +106,57 @@ module _ (d : Piece) (e : Passed) (r : Piece) (f : Name) (φ : d .lone .Denot �
     exits : (y : r .lone .Denot) → φ h z y → Good R y → ent 𝓤 (⋆ 𝓤 H A (‵ (flft κ q) ∷ ‵ Ref ∷ [])) (Post (r .val y))
     exits y p y-is =
         qed W (‵ (flft κ q) ∷ ‵ Ref ∷ []) ∵
-        suffices ! _ (ends-at 𝓤 H A ended stayed (clauses 𝓤) W (((κ, tt), (q, tt), tt, (x, (z, tt)), at), tt) (r .val y) y (tt, (tt, tt)) (tt, (tt, tt))) $ says ! p $
-        nothing ! $ move ! (1 ∷ 0 ∷ []) $ join ! $ frame ! $ nothing ! $ owned-of ! E z z-is $ fjoin ! $ move ! (1 ∷ 0 ∷ []) $ fjoin ! $ frame ! $ owned-of ! R y y-is $ done !
+        suffices ! _ (ends-at 𝓤 H A ended stayed (clauses 𝓤) W (((κ, tt), (q, tt), tt, (x, (z, tt)), at), tt) (r .val y) y (tt, (tt, tt))
+        (tt, (tt, tt))) $ says ! p $
+        nothing ! $ move ! (1 ∷ 0 ∷ []) $ join ! $ frame ! $ nothing ! $ owned-of ! E z z-is $ fjoin ! $ move ! (1 ∷ 0 ∷ []) $ fjoin ! $
+        frame ! $ owned-of ! R y y-is $ done !
 
     -- what the call passes, and that it may
     abbrev to : Take 𝓤 H A .Ghost
     to = ((tt, tt, tt, (h, (z, tt)), (d .val h ∷ [], (e .val z ∷ [], tt))), tt)
 
     asked : Good D h → ent 𝓤 (emp 𝓤) (Take 𝓤 H A .pre to)
-    asked h-is = qed W [] ∵ nothing ! $ nothing ! $ owned-of ! E z z-is $ fjoin ! $ owned-of ! D h h-is $ fjoin ! $ nothing ! $ join ! $ frame ! $ done !
+    asked h-is = qed W [] ∵ nothing ! $ nothing ! $ owned-of ! E z z-is $ fjoin ! $ owned-of ! D h h-is $ fjoin ! $ nothing ! $ join ! $
+        frame ! $ done !
 
     module _ (C : Calls 𝓤 H) (Λ : Loops 𝓤 H) (fm : FmC 𝓤 H (W .laws) C) (known : Triple 𝓤 (C f) (Take 𝓤 H A)) where
       walk : ent 𝓤 (onEntry 𝓤 H A sig (κ, tt) (q, tt) (x, (z, tt)) at) (WpFn 𝓤 H C Λ reading (vptr b o ∷ e .val z ∷ []) Post)
       walk =
           qed W ((‵ (flft κ q) ⊛ ‵ ftrue) ∷ ‵ (owns (ShrRef (named 0) κ (D .row) ∷ E .row ∷ []) (x, (z, tt)) at) ∷ []) ∵
           -- a `&` is Copy: what it owns is had twice, one copy is kept whole for the exit, and of the other only the fractured borrow is kept
-          split ! $ move ! (2 ∷ []) $ fsplit ! $ use1 W (‵ Ref ⊛ ‵ Ref) (shr-copy 𝓤 H A W (named 0) κ (D .row) .twice x (vptr b o ∷ [])) $ split ! $ fsplit3 ! $ drop ! $ drop ! $ keep ! (0 ∷ 3 ∷ 1 ∷ []) $
+          split ! $ move ! (2 ∷ []) $ fsplit ! $ use1 W (‵ Ref ⊛ ‵ Ref) (shr-copy 𝓤 H A W (named 0) κ (D .row) .twice x (vptr b o ∷ [])) $
+          split ! $ fsplit3 ! $ drop ! $ drop ! $ keep ! (0 ∷ 3 ∷ 1 ∷ []) $
           -- [the fractured borrow; the token; what the reference owns]
           enter ! C Λ reading (vptr b o ∷ e .val z ∷ []) _ $
-          alloc1 ! (λ l₀. alloc1 ! (λ l₁. alloc1 ! (λ l₂. alloc1 ! (λ l₃. alloc0 ! $ params1 ! $ pass1 ! (init ! 4 refl (tt, tt)) $ pass1 ! (init ! 2 refl (E .lawful 𝓤 H A W .typed z _ z-is .0)) $ pass0 ! $
+          alloc1 ! (λ l₀. alloc1 ! (λ l₁. alloc1 ! (λ l₂. alloc1 ! (λ l₃. alloc0 ! $ params1 ! $ pass1 ! (init ! 4 refl (tt, tt)) $ pass1
+          ! (init ! 2 refl (E .lawful 𝓤 H A W .typed z _ z-is .0)) $ pass0 ! $
           -- _3 = *x
           move ! (8 ∷ 9 ∷ []) $ looked ! tt D h b o (λ t h-is.
           -- [a share of the cell; what shuts it; the fractured borrow; _3; …; _2; …; _1; …; room for _0; …; what the reference owns]
-          assigns ! (of-opd ! (load ! (from ! (hop ! (look ! 7 refl) (stop !))) (look-raw ! 0 refl))) (from ! (stop !)) (init ! 3 refl (D .lawful 𝓤 H A W .typed h _ h-is .0)) $
+          assigns ! (of-opd ! (load ! (from ! (hop ! (look ! 7 refl) (stop !))) (look-raw ! 0 refl))) (from ! (stop !))
+          (init ! 3 refl (D .lawful 𝓤 H A W .typed h _ h-is .0)) $
           shut ! tt D t h h-is b o $
           -- _0 = f(_3, _2)
           use0 W (raw (Take 𝓤 H A .pre to)) (asked h-is) $
-          calls-plain ! fm ended-f (clauses-f 𝓤) known to (and-then ! (load ! (from ! (stop !)) (look ! 3 refl)) (and-then ! (load ! (from ! (stop !)) (look ! 5 refl)) (no-more !)))
+          calls-plain ! fm ended-f (clauses-f 𝓤) known to (and-then ! (load ! (from ! (stop !)) (look ! 3 refl))
+          (and-then ! (load ! (from ! (stop !)) (look ! 5 refl)) (no-more !)))
           (r .val) (R .tells) (φ h z) (λ y _. id⊢ 𝓤 _) (λ y p y-is. drop ! $
           -- [the token; the fractured borrow; _3; …; _2; …; _1; …; room for _0; …; what the reference owns]
           land ! (from ! (stop !)) (init ! 8 refl (R .lawful 𝓤 H A W .typed y _ y-is .0)) $
           returns ! (look ! 8 refl) $ forget ! 2 refl $ forget ! 4 refl $ forget ! 6 refl $ forget ! 8 refl $
-          move ! (8 ∷ 9 ∷ []) $ free1 ! $ move ! (6 ∷ 7 ∷ []) $ free1 ! $ move ! (4 ∷ 5 ∷ []) $ free1 ! $ move ! (2 ∷ 3 ∷ []) $ free1 ! $ free0 ! $
+          move ! (8 ∷ 9 ∷ []) $ free1 ! $ move ! (6 ∷ 7 ∷ []) $ free1 ! $ move ! (4 ∷ 5 ∷ []) $ free1 ! $ move ! (2 ∷ 3 ∷ []) $ free1 ! $
+          free0 ! $
           keep ! (0 ∷ 2 ∷ []) $ by ! (exits y p y-is)))))))
 
   module _ {M : Type 1} (𝓤 : URA M) (H : Heap 𝓤) (A : Atoms 𝓤) (W : Given 𝓤 H A) (𝓣 : Tables 𝓤 H) where
     pub reads : Triple 𝓤 (𝓣 .C f) (Take 𝓤 H A) → Meets 𝓤 H A sig (WpFn 𝓤 H (𝓣 .C) (𝓣 .Λ) reading) (closing 𝓤 H A ended (clauses 𝓤))
     reads known =
-        walk-meets 𝓤 H A ended stayed W (goes-none-ref 𝓤 H A W 1 (0 ∷ []) tt (plain (λ _. D .row)) yes, (goes-none 𝓤 H A W 1 (λ _. E .row) yes (λ κs x l. refl), tt)) (clauses 𝓤) (WpFn 𝓤 H (𝓣 .C) (𝓣 .Λ) reading)
+        walk-meets 𝓤 H A ended stayed W (
+          goes-none-ref 𝓤 H A W 1 (0 ∷ []) tt (plain (λ _. D .row)) yes,
+          (goes-none 𝓤 H A W 1 (λ _. E .row) yes (λ κs x l. refl), tt),
+        ) (clauses 𝓤) (WpFn 𝓤 H (𝓣 .C) (𝓣 .Λ) reading)
         (WpFn-mono 𝓤 H (W .laws) 𝓣 reading)
-        (walked 𝓤 H A ended stayed (clauses 𝓤) (WpFn 𝓤 H (𝓣 .C) (𝓣 .Λ) reading) (λ κs. (ptr-vals, ((λ z. e .val z ∷ []), tt))) (λ κs. (shr-tells (named 0) (κs .0) (D .row), (E .tells, tt)))
-        (λ κs qs bounds a g are. via 𝓤 _ (fst∗ 𝓤 _ (emp 𝓤)) (walk 𝓤 H A W (κs .0) (qs .0) (a .0) (a .1 .0) (are .1 .0) (𝓣 .C) (𝓣 .Λ) (fmOf 𝓤 H (W .laws) 𝓣) known)))
+        (walked 𝓤 H A ended stayed (clauses 𝓤) (WpFn 𝓤 H (𝓣 .C) (𝓣 .Λ) reading) (λ κs. (ptr-vals, ((λ z. e .val z ∷ []), tt)))
+        (λ κs. (shr-tells (named 0) (κs .0) (D .row), (E .tells, tt)))
+        (λ κs qs bounds a g are. via 𝓤 _ (fst∗ 𝓤 _ (emp 𝓤)) (walk 𝓤 H A W (κs .0) (qs .0) (a .0) (a .1 .0) (are .1 .0) (𝓣 .C) (𝓣 .Λ)
+        (fmOf 𝓤 H (W .laws) 𝓣) known)))

@@ -10,8 +10,11 @@ use Rattle.tarski.proofs.answered.Tie as tie
 returns : tie.Need-returns
 returns c =
     let st = c .before .before .before in
-    let next = rw (toZ-ofZ w64 (st .args .a) (st .fits .a)) at (c .before .before .answer .ensures .0) in
-    (flat-answered _ _ _ _ (c .flat-step .ensures) next, λ e. c .before .before .answer .ensures .1 (step-late _ (sym (c .flat-step .ensures) ∙ e)))
+    let next = rw (toZ-ofZ w64 (st .args .a) (st .fits .a)) at (c .before .before .answer .ensures .0) in (
+      flat-answered _ _ _ _ (c .flat-step .ensures) next,
+      λ e. c .before .before .answer .ensures .1
+          (step-late _ (sym (c .flat-step .ensures) ∙ e)),
+    )
 
 pub answered-spec : {M : Type 1} → statement M
 answered-spec =

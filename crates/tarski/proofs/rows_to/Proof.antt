@@ -16,17 +16,20 @@ shown : Copied → FlatCopied
 shown found = copiedOf (record-of.copiedOf found)
 
 -- the slices a and b left with it
-left : (found : Copied) (a b : List ℕ) (t : FlatCopied) (c : Copy) → t ≡ shown found → record { result = record-of.copiedOf found; patterns-left = a; counts-left = b } ≡ c → (t, a, b) ≡ leftOf c
+left : (found : Copied) (a b : List ℕ) (t : FlatCopied) (c : Copy) → t ≡ shown found → record
+    { result = record-of.copiedOf found; patterns-left = a; counts-left = b } ≡ c → (t, a, b) ≡ leftOf c
 unfolding shown
 left found a b t c e f = ap (λ (u : FlatCopied). (u, a, b)) e ∙ ap leftOf f
 
 returns : tie.Need-returns
 unfolding shown copiedOf
-returns c = let it = c .before .before .before .before .before .before .before .copy-rows in left (it .result) _ _ _ _ (ap shown (sym (c .before .n .given .1))) (it .ensures)
+returns c = let it = c .before .before .before .before .before .before .before .copy-rows in left (it .result) _ _ _ _
+    (ap shown (sym (c .before .n .given .1))) (it .ensures)
 
 returns-2 : tie.Need-returns-2
 unfolding shown copiedOf
-returns-2 c = let it = c .before .before .before .before .before .before .before .copy-rows in left (it .result) _ _ _ _ (ap shown (sym (c .before .k .given .1))) (it .ensures)
+returns-2 c = let it = c .before .before .before .before .before .before .before .copy-rows in left (it .result) _ _ _ _
+    (ap shown (sym (c .before .k .given .1))) (it .ensures)
 
 pub rows-to-spec : {M : Type 1} → statement M
 rows-to-spec =

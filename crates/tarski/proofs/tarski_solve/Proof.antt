@@ -10,11 +10,19 @@ enum-told c = search needs
 
 returns : tie.Need-returns
 unfolding refusalOf
-returns c = (ap refusalOf (sym (c .enum-told .given .1) ∙ c .before .before .before .solve .ensures .0), c .before .before .before .solve .ensures .1)
+returns c = (
+  ap refusalOf (sym (c .enum-told .given .1) ∙ c .before .before .before .solve .ensures .0),
+  c .before .before .before .solve
+      .ensures .1,
+)
 
 returns-2 : tie.Need-returns-2
 unfolding refusalOf
-returns-2 c = (ap refusalOf (sym (c .before .k .given .1) ∙ c .before .before .before .before .solve .ensures .0), c .before .before .before .before .solve .ensures .1)
+returns-2 c = (
+  ap refusalOf (sym (c .before .k .given .1) ∙ c .before .before .before .before .solve .ensures .0),
+  c .before .before
+      .before .before .solve .ensures .1,
+)
 
 pub tarski-solve-spec : {M : Type 1} → statement M
 tarski-solve-spec =
