@@ -1,4 +1,4 @@
--- How far the file is compared. Assumes nothing: these are definitions.
+-- How far the file is compared.
 --
 --   Counted p     == no more was counted than bytes were passed, and no more differs than was compared
 --   Further p q n == q is counted, and is as far as p or further, within n bytes

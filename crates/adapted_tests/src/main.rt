@@ -2,43 +2,20 @@
 //
 // The file's layout is written there. Nothing is known of what a file holds: each record is tested before it is used.
 use libc::STDOUT_FILENO;
+use refusals::MOST_POINTS;
+use refusals::MOST_POLYNOMIALS;
 use signs::Pattern;
 use signs::Product;
 ghost use mathlib.Core.Path.{_≡_};
 ghost use mathlib.Core.Bool.{true};
 ghost use Prim.Native.Nat.{_+_, _*_, _^_, _≤_, _<_};
 ghost use lib.ListN.{length};
+ghost use Rattle.refusals.specs.Limits.{mostPolynomials, mostPoints};
 ghost use Rattle.signs.specs.Lists.{Below, Rising};
 ghost use Rattle.adapted_tests.specs.Counts.{Counted, Further};
 
-// The most polynomials, and the most patterns in a list.
-const MOST_POLYNOMIALS: usize = 8;
-
-const MOST_PATTERNS: usize = 64;
-
-fn wide(x: u8) -> usize
-    ensures { λ r. ⌜ r < 256 ⌝ }
-{
-    x as usize
-}
-
-// The number in the two bytes at a place, high byte first.
-fn number(file: &[u8], at: usize) -> u16
-    requires { ⌜ at + 2 ≤ length (now file) ⌝ }
-{
-    (256 * wide(file[at]) + wide(file[at + 1])) as u16
-}
-
-// Puts the r numbers from a place on into out.
-fn numbers(file: &[u8], at: usize, r: usize, out: &mut [u16])
-    requires { ⌜ (at + 2 * r ≤ length (now file)) × (r ≤ length (now out)) ⌝ }
-{
-    let mut k = 0;
-    while k < r {
-        out[k] = number(file, at + 2 * k);
-        k += 1;
-    }
-}
+// What the file adds to each query.
+const QUERY_ZERO: i64 = MOST_POINTS as i64;
 
 // Whether a list is rising and below a bound, from its end down.
 fn is_rising(list: &[u16], bound: u16) -> bool
@@ -56,35 +33,21 @@ fn is_rising(list: &[u16], bound: u16) -> bool
     true
 }
 
-// Whether a list is the one stored from a place on.
-fn is_stored(file: &[u8], at: usize, list: &[u16]) -> bool
-    requires { ⌜ at + 2 * length (now list) ≤ length (now file) ⌝ }
-{
-    let mut k = 0;
-    while k < list.len() {
-        if list[k] != number(file, at + 2 * k) {
-            return false;
-        }
-        k += 1;
-    }
-    true
-}
-
 // Room for a list.
-fn blank() -> [u16; MOST_PATTERNS]
-    ensures { λ r. ⌜ 64 ≡ length r ⌝ }
+fn blank() -> [u16; MOST_POINTS]
+    ensures { λ r. ⌜ mostPoints ≡ length r ⌝ }
 {
-    [0; MOST_PATTERNS]
+    [0; MOST_POINTS]
 }
 
 // Whether the adapted list of these patterns of s polynomials is the one stored from a place on.
 fn list_agrees(file: &[u8], at: usize, s: usize, patterns: &[u16]) -> bool
-    requires { ⌜ (s ≤ 8) × Rising (now patterns) × Below (3 ^ s) (now patterns) × (length (now patterns) ≤ 64) ⌝ }
+    requires { ⌜ (s ≤ mostPolynomials) × Rising (now patterns) × Below (3 ^ s) (now patterns) × (length (now patterns) ≤ mostPoints) ⌝ }
     requires { ⌜ at + 2 * length (now patterns) ≤ length (now file) ⌝ }
 {
     let mut made = blank();
     let n = adapted::adapted(patterns, s, 0, &mut made, 0);
-    is_stored(file, at, &made[..n])
+    test_input::are_pairs(file, at, n, 0, &made[..n])
 }
 
 // One more where the sign is +, one less where it is −.
@@ -101,11 +64,11 @@ fn moved(sum: usize, sign: i64) -> usize
     sum
 }
 
-// 64, and one more for each pattern that the product is positive on, and one less for each that it is negative on.
+// MOST_POINTS, and one more for each pattern that the product is positive on, and one less for each that it is negative on.
 fn balance(s: usize, patterns: &[u16], a: Product) -> usize
-    requires { ⌜ (s ≤ 8) × (a .0 < 3 ^ s) × Below (3 ^ s) (now patterns) × (length (now patterns) ≤ 64) ⌝ }
+    requires { ⌜ (s ≤ mostPolynomials) × (a .0 < 3 ^ s) × Below (3 ^ s) (now patterns) × (length (now patterns) ≤ mostPoints) ⌝ }
 {
-    let mut sum = MOST_PATTERNS;
+    let mut sum = MOST_POINTS;
     let mut k = 0;
     while k < patterns.len() {
         let p = Pattern(patterns[k]);
@@ -115,17 +78,17 @@ fn balance(s: usize, patterns: &[u16], a: Product) -> usize
     sum
 }
 
-// Whether the query of a product on these patterns, and the sum of its signs, are the number stored, which has 64 added.
+// Whether the query of a product on these patterns, and the sum of its signs, are the number stored, which has QUERY_ZERO added.
 fn query_agrees(s: usize, patterns: &[u16], a: u16, stored: u8) -> bool
-    requires { ⌜ (s ≤ 8) × Below (3 ^ s) (now patterns) × (length (now patterns) ≤ 64) ⌝ }
+    requires { ⌜ (s ≤ mostPolynomials) × Below (3 ^ s) (now patterns) × (length (now patterns) ≤ mostPoints) ⌝ }
 {
     if signs::power(s) <= a {
         return false;
     }
-    if balance(s, patterns, Product(a)) != wide(stored) {
+    if balance(s, patterns, Product(a)) != test_input::wide(stored) {
         return false;
     }
-    signs::query(s, patterns, Product(a)) == stored as i64 - 64
+    signs::query(s, patterns, Product(a)) == stored as i64 - QUERY_ZERO
 }
 
 // 0 where the answer is yes, else 1.
@@ -137,14 +100,14 @@ fn failures(is_right: bool) -> usize
 
 // How many of the q queries stored from a place on differ.
 fn queries_differ(file: &[u8], at: usize, q: usize, s: usize, patterns: &[u16]) -> usize
-    requires { ⌜ (s ≤ 8) × Below (3 ^ s) (now patterns) × (length (now patterns) ≤ 64) × (at + 3 * q ≤ length (now file)) ⌝ }
+    requires { ⌜ (s ≤ mostPolynomials) × Below (3 ^ s) (now patterns) × (length (now patterns) ≤ mostPoints) × (at + 3 * q ≤ length (now file)) ⌝ }
     ensures { λ r. ⌜ r ≤ q ⌝ }
 {
     let mut differ = 0;
     let mut k = 0;
     while k < q {
         let place = at + 3 * k;
-        let a = number(file, place);
+        let a = test_input::pair(file, place) as u16;
         differ += failures(query_agrees(s, patterns, a, file[place + 2]));
         k += 1;
     }
@@ -163,7 +126,7 @@ struct Progress {
 // Compares the record at the place reached, of these patterns of s polynomials and q queries.
 // Where the patterns are no rising list, the progress comes back as it was.
 fn compare(file: &[u8], s: usize, q: usize, patterns: &[u16], p: Progress) -> Progress
-    requires { ⌜ (s ≤ 8) × (length (now patterns) ≤ 64) × (p .at + 3 + 4 * length (now patterns) + 3 * q ≤ length (now file)) × Counted p ⌝ }
+    requires { ⌜ (s ≤ mostPolynomials) × (length (now patterns) ≤ mostPoints) × (p .at + 3 + 4 * length (now patterns) + 3 * q ≤ length (now file)) × Counted p ⌝ }
     ensures { λ n. ⌜ Further p n (length (now (file .entry))) ⌝ }
 {
     if !is_rising(patterns, signs::power(s)) {
@@ -182,11 +145,11 @@ fn compare(file: &[u8], s: usize, q: usize, patterns: &[u16], p: Progress) -> Pr
 
 // The same for a record of r patterns.
 fn compare_record(file: &[u8], s: usize, q: usize, r: usize, p: Progress) -> Progress
-    requires { ⌜ (s ≤ 8) × (r ≤ 64) × (p .at + 3 + 4 * r + 3 * q ≤ length (now file)) × Counted p ⌝ }
+    requires { ⌜ (s ≤ mostPolynomials) × (r ≤ mostPoints) × (p .at + 3 + 4 * r + 3 * q ≤ length (now file)) × Counted p ⌝ }
     ensures { λ n. ⌜ Further p n (length (now (file .entry))) ⌝ }
 {
     let mut list = blank();
-    numbers(file, p.at + 3, r, &mut list);
+    test_input::read_pairs(file, p.at + 3, r, &mut list);
     compare(file, s, q, &list[..r], p)
 }
 
@@ -199,16 +162,16 @@ fn next(file: &[u8], p: Progress) -> Progress
     if file.len() - at < 3 {
         return p;
     }
-    let s = wide(file[at]);
-    let r = wide(file[at + 1]);
-    let q = wide(file[at + 2]);
+    let s = test_input::wide(file[at]);
+    let r = test_input::wide(file[at + 1]);
+    let q = test_input::wide(file[at + 2]);
     if s == 0 {
         return p;
     }
     if MOST_POLYNOMIALS < s {
         return p;
     }
-    if MOST_PATTERNS < r {
+    if MOST_POINTS < r {
         return p;
     }
     if file.len() - at < 3 + 4 * r + 3 * q {
@@ -250,16 +213,8 @@ fn compare_all(file: &[u8]) {
 }
 
 fn main() {
-    let mut path = io::buffer();
-    let length = os::arg(1, &mut path);
-    let fd = os::open_read(&path[..length]);
-    if fd < 0 {
-        os::fail(&path[..length]);
-        return;
-    }
     let mut file = io::large_buffer();
-    let n = io::read_full(fd, &mut file);
-    libc::close(fd);
+    let n = test_input::read_argument(1, &mut file);
     if n == file.len() {
         io::write_all(STDOUT_FILENO, b"the file is too long\n");
         return;

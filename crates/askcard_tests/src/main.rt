@@ -1,8 +1,12 @@
 // Reads the cards of the file that the first argument names, each after its length in two bytes, and writes the printout of each, then what a slice of
 // one byte gets: `X`, the number that refuses it and the byte, as it was.
+ghost use Prim.Native.Nat.{_+_, _≤_, _<_};
+ghost use lib.ListN.{length};
 use libc::STDOUT_FILENO;
 use printout::MOST_TEXT;
 use printout::Written;
+use test_input::pair;
+use test_input::wide;
 
 fn put(b: u8) {
     io::write_all(STDOUT_FILENO, &[b]);
@@ -32,7 +36,7 @@ fn print_short(card: &[u8]) {
         Written::Refused(number) => {
             put(b'X');
             print_number(number as u64);
-            print_number(layout::wide(out[0]) as u64);
+            print_number(wide(out[0]) as u64);
         }
     }
     put(b'\n');
@@ -43,30 +47,29 @@ fn print_card(card: &[u8]) {
     print_short(card);
 }
 
-fn print_cards(cards: &[u8]) {
+// Writes what the card at a place gets, and returns the place after it: the end of the file where the card is cut short.
+fn print_record(file: &[u8], at: usize) -> usize
+    requires { ⌜ at + 2 ≤ length (now file) ⌝ }
+    ensures { λ r. ⌜ (at < r) × (r ≤ length (now (file .entry))) ⌝ }
+{
+    let from = at + 2;
+    let to = from + pair(file, at);
+    if file.len() < to {
+        return file.len();
+    }
+    print_card(&file[from..to]);
+    to
+}
+
+fn print_cards(file: &[u8]) {
     let mut at = 0;
-    while 2 <= cards.len() - at {
-        let len = layout::wide(cards[at]) * 256 + layout::wide(cards[at + 1]);
-        let from = at + 2;
-        if cards.len() - from < len {
-            return;
-        }
-        let to = from + len;
-        print_card(&cards[from..to]);
-        at = to;
+    while 2 <= file.len() - at {
+        at = print_record(file, at);
     }
 }
 
 fn main() {
-    let mut path = io::buffer();
-    let length = os::arg(1, &mut path);
-    let fd = os::open_read(&path[..length]);
-    if fd < 0 {
-        os::fail(&path[..length]);
-        return;
-    }
-    let mut cards = io::large_buffer();
-    let n = io::read_full(fd, &mut cards);
-    libc::close(fd);
-    print_cards(&cards[..n]);
+    let mut file = io::large_buffer();
+    let n = test_input::read_argument(1, &mut file);
+    print_cards(&file[..n]);
 }

@@ -11,6 +11,8 @@ use card::Stretch;
 use libc::STDOUT_FILENO;
 use query::Answer;
 use signs::Product;
+use test_input::pair;
+use test_input::wide;
 
 fn put(b: u8) {
     io::write_all(STDOUT_FILENO, &[b]);
@@ -41,7 +43,7 @@ fn weight(bytes: &[u8]) -> usize {
     let mut sum = 0;
     let mut i = 0;
     while i < bytes.len() {
-        sum = (sum * 31 + layout::wide(bytes[i])) % 65521;
+        sum = (sum * 31 + wide(bytes[i])) % 65521;
         i += 1;
     }
     sum
@@ -125,14 +127,6 @@ fn print_query(card: &[u8], a: u16) {
     put(b'\n');
 }
 
-// The two bytes from byte at on, high byte first.
-fn pair(bytes: &[u8], at: usize) -> usize
-    requires { ⌜ at + 2 ≤ length (now bytes) ⌝ }
-    ensures { λ r. ⌜ r < 65536 ⌝ }
-{
-    layout::wide(bytes[at]) * 256 + layout::wide(bytes[at + 1])
-}
-
 fn print_queries(card: &[u8], products: &[u8]) {
     let mut at = 0;
     while 2 <= products.len() - at {
@@ -141,32 +135,32 @@ fn print_queries(card: &[u8], products: &[u8]) {
     }
 }
 
+// Writes what the calls answer of the record at a place, and returns the place after it: the end of the file where the record is cut short.
+fn print_record(file: &[u8], at: usize) -> usize
+    requires { ⌜ at + 4 ≤ length (now file) ⌝ }
+    ensures { λ r. ⌜ (at < r) × (r ≤ length (now (file .entry))) ⌝ }
+{
+    let from = at + 4;
+    let to = from + pair(file, at);
+    let end = to + 2 * pair(file, at + 2);
+    if file.len() < end {
+        return file.len();
+    }
+    let card = &file[from..to];
+    print_card(card);
+    print_queries(card, &file[to..end]);
+    end
+}
+
 fn print_cards(file: &[u8]) {
     let mut at = 0;
     while 4 <= file.len() - at {
-        let from = at + 4;
-        let to = from + pair(file, at);
-        let end = to + 2 * pair(file, at + 2);
-        if file.len() < end {
-            return;
-        }
-        let card = &file[from..to];
-        print_card(card);
-        print_queries(card, &file[to..end]);
-        at = end;
+        at = print_record(file, at);
     }
 }
 
 fn main() {
-    let mut path = io::buffer();
-    let length = os::arg(1, &mut path);
-    let fd = os::open_read(&path[..length]);
-    if fd < 0 {
-        os::fail(&path[..length]);
-        return;
-    }
     let mut file = io::large_buffer();
-    let n = io::read_full(fd, &mut file);
-    libc::close(fd);
+    let n = test_input::read_argument(1, &mut file);
     print_cards(&file[..n]);
 }

@@ -1,4 +1,8 @@
 pub mod Thin
+pub mod Pieces
+pub mod LentRead
+pub mod LentWrite
+pub mod Lent
 pub mod Lengths
 pub mod Records
 pub mod Serves

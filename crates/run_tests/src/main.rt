@@ -1,11 +1,13 @@
 // Plays runs from files and compares what each call of `determination` gives with what the files say, which tools/run_cases.py worked out by
-// another route. A file's layout is written there. Nothing is known of what a file holds: past its end every byte reads as 0.
+// another route. A file's layout is written there.
 use determination::Answered;
 use determination::Copied;
 use determination::Fetched;
 use determination::Run;
 use determination::Step;
 use libc::STDOUT_FILENO;
+use test_input::byte;
+use test_input::pair;
 ghost use mathlib.Core.Path.{_≡_};
 ghost use Prim.Native.Nat.{_+_, _*_, _≤_, _<_};
 ghost use lib.ListN.{length};
@@ -13,24 +15,24 @@ ghost use lib.ListN.{length};
 // The first byte of an item. Up to LONGEST_SHORT it is an answer, with SHORT_ZERO added; above COPY, the item is an answer of eight bytes.
 const SHORT_ZERO: u64 = 64;
 
-const LONGEST_SHORT: u8 = 128;
+const LONGEST_SHORT: usize = 128;
 
-const START: u8 = 129;
+const START: usize = 129;
 
-const FETCH: u8 = 130;
+const FETCH: usize = 130;
 
-const COPY: u8 = 131;
+const COPY: usize = 131;
 
 // What a call gives, as one number: the product, pattern or number of rows as it is, DONE, or REFUSED with the refusal number added.
-const DONE: u64 = 65536;
+const DONE: usize = 65536;
 
-const REFUSED: u64 = 131072;
+const REFUSED: usize = 131072;
 
 // Given for rows that are not those of the item. No item has it.
-const WRONG: u64 = 4294967296;
+const WRONG: usize = 4294967296;
 
 // One more than any question total.
-const TOTALS: u64 = 1024;
+const TOTALS: usize = 1024;
 
 // What is in the lent slices before a copy. No pattern and no count is this.
 const FILLER: u16 = 43690;
@@ -57,36 +59,15 @@ const KINDS: usize = 22;
 
 // ---- numbers of an item
 
-fn wide(x: u8) -> u64
-    ensures { λ r. ⌜ r < 256 ⌝ }
-{
-    x as u64
-}
-
-// The byte at a place, 0 past the end.
-fn byte(item: &[u8], at: usize) -> u8 {
-    if at < item.len() {
-        return item[at];
-    }
-    0
-}
-
-// The number in the two bytes at a place, high byte first; in four bytes; in eight.
-fn pair(item: &[u8], at: usize) -> u64
-    requires { ⌜ at < 65536 ⌝ }
-    ensures { λ r. ⌜ r < 65536 ⌝ }
-{
-    256 * wide(byte(item, at)) + wide(byte(item, at + 1))
-}
-
-fn four(item: &[u8], at: usize) -> u64
+// The number in the four bytes at a place, high byte first; in eight.
+fn four(item: &[u8], at: usize) -> usize
     requires { ⌜ at < 256 ⌝ }
     ensures { λ r. ⌜ r < 4294967296 ⌝ }
 {
     65536 * pair(item, at) + pair(item, at + 2)
 }
 
-fn eight(item: &[u8], at: usize) -> u64
+fn eight(item: &[u8], at: usize) -> usize
     requires { ⌜ at < 128 ⌝ }
 {
     4294967296 * four(item, at) + four(item, at + 4)
@@ -101,11 +82,11 @@ fn signed(bits: u64) -> i64 {
 }
 
 // What the item says that its call gives, and the question total after it.
-fn stored(item: &[u8]) -> u64 {
+fn stored(item: &[u8]) -> usize {
     DONE * (pair(item, 1) / TOTALS) + pair(item, 3)
 }
 
-fn total(item: &[u8]) -> u64 {
+fn total(item: &[u8]) -> usize {
     pair(item, 1) % TOTALS
 }
 
@@ -132,21 +113,21 @@ fn note(tally: &mut [usize; KINDS], kind: usize) {
     }
 }
 
-fn note_result(tally: &mut [usize; KINDS], result: u64) {
+fn note_result(tally: &mut [usize; KINDS], result: usize) {
     if result == DONE {
         return note(tally, ENDED_DONE);
     }
     if result < REFUSED {
         return;
     }
-    let k = (result - REFUSED) as usize;
+    let k = result - REFUSED;
     if k < REFUSALS {
         note(tally, k);
     }
 }
 
 // Counts an item, what its call gave, and whether this or the question total is not what the item says.
-fn enter(tally: &mut [usize; KINDS], item: &[u8], result: u64, asked: u64) {
+fn enter(tally: &mut [usize; KINDS], item: &[u8], result: usize, asked: usize) {
     note(tally, kind_of(item));
     note_result(tally, result);
     if result != stored(item) {
@@ -159,11 +140,11 @@ fn enter(tally: &mut [usize; KINDS], item: &[u8], result: u64, asked: u64) {
 
 // ---- the calls
 
-fn step_result(step: Step) -> u64 {
+fn step_result(step: Step) -> usize {
     match step {
-        Step::Ask(p) => p.0 as u64,
+        Step::Ask(p) => p.0 as usize,
         Step::Done => DONE,
-        Step::Refused(k) => REFUSED + k as u64,
+        Step::Refused(k) => REFUSED + k as usize,
     }
 }
 
@@ -171,32 +152,32 @@ fn step_result(step: Step) -> u64 {
 fn made(item: &[u8], run: Run) -> Answered {
     let kind = byte(item, 0);
     if kind <= LONGEST_SHORT {
-        let bits = std::num::wrapping_sub_u64(wide(kind), SHORT_ZERO);
+        let bits = std::num::wrapping_sub_u64(kind as u64, SHORT_ZERO);
         return determination::answer(run, signed(bits));
     }
     if kind == START {
-        return determination::start(eight(item, 5) as usize);
+        return determination::start(eight(item, 5));
     }
-    determination::answer_through(run, signed(eight(item, 5)))
+    determination::answer_through(run, signed(eight(item, 5) as u64))
 }
 
 // What the item's fetch gives.
-fn fetched(item: &[u8], run: Run) -> u64 {
-    match determination::fetch_row(run, eight(item, 5) as usize) {
+fn fetched(item: &[u8], run: Run) -> usize {
+    match determination::fetch_row(run, eight(item, 5)) {
         Fetched::Row(row) => {
-            if row.count as u64 != pair(item, 13) {
+            if row.count as usize != pair(item, 13) {
                 return WRONG;
             }
-            row.pattern.0 as u64
+            row.pattern.0 as usize
         }
-        Fetched::Refused(k) => REFUSED + k as u64,
+        Fetched::Refused(k) => REFUSED + k as usize,
     }
 }
 
-fn copy_result(copied: Copied) -> u64 {
+fn copy_result(copied: Copied) -> usize {
     match copied {
-        Copied::Rows(n) => n as u64,
-        Copied::Refused(k) => REFUSED + k as u64,
+        Copied::Rows(n) => n,
+        Copied::Refused(k) => REFUSED + k as usize,
     }
 }
 
@@ -204,32 +185,13 @@ fn copy_result(copied: Copied) -> u64 {
 fn rows_stored(item: &[u8]) -> usize
     ensures { λ r. ⌜ r < 256 ⌝ }
 {
-    let n = stored(item) as usize;
+    let n = stored(item);
     if n < ROOM { n } else { 0 }
 }
 
-// What a lent array is to hold at k after a copy: one of the n numbers from a place on, or what it held.
-fn left(item: &[u8], at: usize, n: usize, k: usize) -> u16
-    requires { ⌜ (at < 1024) × (k < 256) ⌝ }
-{
-    if k < n {
-        return pair(item, at + 2 * k) as u16;
-    }
-    FILLER
-}
-
-// Whether a lent array holds that everywhere.
-fn is_left(item: &[u8], at: usize, n: usize, list: &[u16; ROOM]) -> bool
-    requires { ⌜ at < 1024 ⌝ }
-{
-    let mut k = 0;
-    while k < ROOM {
-        if list[k] != left(item, at, n, k) {
-            return false;
-        }
-        k += 1;
-    }
-    true
+// Whether a lent array holds after a copy what it is to hold: the n numbers from a place on, and what it held after them.
+fn is_left(item: &[u8], at: usize, n: usize, list: &[u16; ROOM]) -> bool {
+    test_input::are_pairs(item, at, n, FILLER, list)
 }
 
 fn filled() -> [u16; ROOM]
@@ -239,9 +201,9 @@ fn filled() -> [u16; ROOM]
 }
 
 // What the item's copy gives, to slices of its two lengths, which are parts of longer arrays.
-fn copied(item: &[u8], run: Run) -> u64 {
-    let a = wide(byte(item, 5)) as usize;
-    let b = wide(byte(item, 6)) as usize;
+fn copied(item: &[u8], run: Run) -> usize {
+    let a = byte(item, 5);
+    let b = byte(item, 6);
     let n = rows_stored(item);
     let mut patterns = filled();
     let mut counts = filled();
@@ -277,7 +239,7 @@ fn size(item: &[u8]) -> usize
 // The record after a call, and what the call gave.
 struct Played {
     run: Run,
-    result: u64,
+    result: usize,
 }
 
 // Makes the call of an item.
@@ -314,7 +276,7 @@ fn play_all(file: &[u8], tally: &mut [usize; KINDS])
         let item = &file[at..];
         let played = play(item, run);
         run = played.run;
-        enter(tally, item, played.result, determination::asked(run) as u64);
+        enter(tally, item, played.result, determination::asked(run));
         at += size(item);
     }
     if at != file.len() {
@@ -324,16 +286,8 @@ fn play_all(file: &[u8], tally: &mut [usize; KINDS])
 
 // Plays the file that argument i names.
 fn play_argument(i: usize, tally: &mut [usize; KINDS]) {
-    let mut path = io::buffer();
-    let length = os::arg(i, &mut path);
-    let fd = os::open_read(&path[..length]);
-    if fd < 0 {
-        os::fail(&path[..length]);
-        return;
-    }
     let mut file = io::large_buffer();
-    let n = io::read_full(fd, &mut file);
-    libc::close(fd);
+    let n = test_input::read_argument(i, &mut file);
     play_all(&file[..n], tally);
 }
 

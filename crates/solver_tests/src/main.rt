@@ -1,9 +1,9 @@
 // Solves the systems of the files that the arguments name, and compares each answer, and all that the output slice holds then, with what
 // tools/solver_systems.py worked out by another route. The files' layout is written there.
-//
-// Nothing is known of what a file holds: past its end every byte reads as 0.
 use libc::STDOUT_FILENO;
 use solver::Solved;
+use test_input::byte;
+use test_input::read_pairs;
 ghost use mathlib.Core.Path.{_≡_};
 ghost use Prim.Native.Nat.{_+_, _*_, _≤_, _<_};
 ghost use lib.ListN.{length};
@@ -43,22 +43,6 @@ const FAR_COUNTS: [usize; 3] = [264, 4294967297, 18446744073709551615];
 
 const FIRST_FAR_COUNT: usize = 253;
 
-fn wide(x: u8) -> usize
-    ensures { λ r. ⌜ r < 256 ⌝ }
-{
-    x as usize
-}
-
-// The byte at a place of the file.
-fn byte(file: &[u8], at: usize) -> usize
-    ensures { λ r. ⌜ r < 256 ⌝ }
-{
-    if at < file.len() {
-        return wide(file[at]);
-    }
-    0
-}
-
 // The number of polynomials that a code stands for.
 fn polynomials(code: usize) -> usize
     requires { ⌜ code < 256 ⌝ }
@@ -79,36 +63,6 @@ fn number(code: usize) -> i64
     FAR[code - FIRST_FAR]
 }
 
-// The pattern in the two bytes at a place, high byte first.
-fn pattern(file: &[u8], at: usize) -> u16
-    requires { ⌜ at < 1000000 ⌝ }
-{
-    (256 * byte(file, at) + byte(file, at + 1)) as u16
-}
-
-// Puts the r patterns from a place on into out.
-fn read_patterns(file: &[u8], at: usize, r: usize, out: &mut [u16])
-    requires { ⌜ (at < 900000) × (r < 256) × (256 ≡ length (now out)) ⌝ }
-{
-    let mut k = 0;
-    while k < r {
-        out[k] = pattern(file, at + 2 * k);
-        k += 1;
-    }
-}
-
-// Puts the m numbers from a place on into out.
-fn read_numbers(file: &[u8], at: usize, m: usize, out: &mut [i64])
-    requires { ⌜ (at < 900000) × (m < 256) × (256 ≡ length (now out)) ⌝ }
-{
-    let mut k = 0;
-    while k < m {
-        let x = number(byte(file, at + k));
-        out[k] = x;
-        k += 1;
-    }
-}
-
 // What place k of the output slice holds before a call.
 fn held(k: usize) -> i64
     requires { ⌜ k < 256 ⌝ }
@@ -116,19 +70,7 @@ fn held(k: usize) -> i64
     (HELD + k) as i64
 }
 
-// Fills the output slice.
-fn hold(out: &mut [i64])
-    requires { ⌜ 256 ≡ length (now out) ⌝ }
-{
-    let mut k = 0;
-    while k < ROOM {
-        let x = held(k);
-        out[k] = x;
-        k += 1;
-    }
-}
-
-// What place k of the output slice is to hold after a call that writes the n numbers from a place of the file on.
+// The number from a place of the file on that belongs to place k of a slice where k is below n, and what the slice holds before a call where it is not.
 fn expected(file: &[u8], at: usize, n: usize, k: usize) -> i64
     requires { ⌜ (at < 900000) × (k < 256) ⌝ }
 {
@@ -138,7 +80,19 @@ fn expected(file: &[u8], at: usize, n: usize, k: usize) -> i64
     held(k)
 }
 
-// Whether the output slice holds that at every place.
+// Puts that into every place of out: n numbers, and what is held before a call after them.
+fn fill(file: &[u8], at: usize, n: usize, out: &mut [i64])
+    requires { ⌜ (at < 900000) × (256 ≡ length (now out)) ⌝ }
+{
+    let mut k = 0;
+    while k < ROOM {
+        let x = expected(file, at, n, k);
+        out[k] = x;
+        k += 1;
+    }
+}
+
+// Whether the slice holds that at every place.
 fn is_left(file: &[u8], at: usize, n: usize, out: &[i64; ROOM]) -> bool
     requires { ⌜ at < 900000 ⌝ }
 {
@@ -183,8 +137,8 @@ fn agrees(
 {
     let mut numbers = [0i64; ROOM];
     let mut out = [0i64; ROOM];
-    read_numbers(file, at, m, &mut numbers);
-    hold(&mut out);
+    fill(file, at, m, &mut numbers);
+    fill(file, at, 0, &mut out);
     let got = solver::solve(s, patterns, &numbers[..m], &mut out[..o]);
     if code(got) != answer {
         return false;
@@ -264,7 +218,7 @@ fn compare_list(file: &[u8], at: usize, tally: &mut [u32; 17]) -> usize
     let q = byte(file, at + 2);
     let from = at + 3;
     let mut patterns = [0u16; ROOM];
-    read_patterns(file, from, r, &mut patterns);
+    read_pairs(file, from, r, &mut patterns);
     compare_systems(file, from + 2 * r, q, s, &patterns[..r], tally)
 }
 
@@ -283,16 +237,8 @@ fn compare_all(file: &[u8], tally: &mut [u32; 17])
 
 // Compares the systems of the file that argument k names.
 fn compare_file(k: usize, tally: &mut [u32; 17]) {
-    let mut path = io::buffer();
-    let length = os::arg(k, &mut path);
-    let fd = os::open_read(&path[..length]);
-    if fd < 0 {
-        os::fail(&path[..length]);
-        return;
-    }
     let mut file = io::large_buffer();
-    let n = io::read_full(fd, &mut file);
-    libc::close(fd);
+    let n = test_input::read_argument(k, &mut file);
     compare_all(&file[..n], tally);
 }
 

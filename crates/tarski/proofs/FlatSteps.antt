@@ -27,13 +27,15 @@ flat-answer run run′ a t (x, g, e) = (
 )
 
 -- a start that is refused has kind 2, and the record is the one before; any other gives the new one
-pub kept-refused : (r begun : State) (x : Step) (t : FlatStep) → t ≡ flatStepOf x → t .kind ≡ 2 → (r, t) ≡ flatAnsweredOf (keptOn r (begun, x))
+pub kept-refused : (r begun : State) (x : Step) (t : FlatStep) → t ≡ flatStepOf x → t .kind ≡ 2 → (r, t) ≡ flatAnsweredOf
+    (keptOn r (begun, x))
 unfolding flatStepOf keptOn
 kept-refused r begun (ask p) t e k = let clash : _≡_ {A = ℕ} 0 2 = sym (ap (λ (u : FlatStep). u .kind) e) ∙ k in absurd (omega arith)
 kept-refused r begun done t e k = let clash : _≡_ {A = ℕ} 1 2 = sym (ap (λ (u : FlatStep). u .kind) e) ∙ k in absurd (omega arith)
 kept-refused r begun (refused n) t e k = ap (λ (u : FlatStep). (r, u)) e
 
-pub kept-begun : (r begun : State) (x : Step) (t : FlatStep) → t ≡ flatStepOf x → (t .kind ≡ 2 → ⊥) → (begun, t) ≡ flatAnsweredOf (keptOn r (begun, x))
+pub kept-begun : (r begun : State) (x : Step) (t : FlatStep) → t ≡ flatStepOf x → (t .kind ≡ 2 → ⊥) → (begun, t) ≡ flatAnsweredOf
+    (keptOn r (begun, x))
 unfolding flatStepOf keptOn
 kept-begun r begun (ask p) t e k = ap (λ (u : FlatStep). (begun, u)) e
 kept-begun r begun done t e k = ap (λ (u : FlatStep). (begun, u)) e

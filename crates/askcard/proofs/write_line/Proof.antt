@@ -7,12 +7,6 @@ use borrow.Author.Needs.{needs}
 use Rattle.askcard.proofs.write_line.Statement.{statement}
 use Rattle.askcard.proofs.write_line.Tie as tie
 
-returns : tie.Need-returns
-returns c = search needs
-
-returns-2 : tie.Need-returns-2
-returns-2 c = search needs
-
 array-share-prefix-bytes : tie.Need-array-share-prefix-bytes
 array-share-prefix-bytes c =
     let st = c .before .before .before in
@@ -23,19 +17,7 @@ slice-aggregate-write-all c =
     let st = c .before .before .before .before in
     sym (length-take-le (st .args .line .length) (st .args .line .bytes) (omega (arith, bytes-length (st .args .line) (st .good .0), c .before .if2 .left)))
 
-write-all-requires : tie.Need-write-all-requires
-write-all-requires c κs = search needs
-
-returns-3 : tie.Need-returns-3
-returns-3 c = search needs
-
 pub write-line-spec : {M : Type 1} → statement M
 write-line-spec =
-    tie.close
-    (tie.spec
-    returns
-    returns-2
-    array-share-prefix-bytes
-    slice-aggregate-write-all
-    write-all-requires
-    returns-3)
+    tie.close (tie.spec (λ c. search needs) (λ c. search needs) array-share-prefix-bytes slice-aggregate-write-all (λ c κs. search needs)
+    (λ c. search needs))

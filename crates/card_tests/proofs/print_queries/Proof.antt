@@ -1,4 +1,4 @@
--- `card_tests::print_queries` is safe and ends: each turn passes two bytes. Assumes nothing.
+-- `card_tests::print_queries` is safe and ends: each turn passes two bytes.
 use Prim.Native.Nat.{_-_, _≤_}
 use native.Mathlib.Omega.{arith}
 use lib.ListN.{length}
@@ -11,45 +11,7 @@ Inv-loop card products at₀ at = at ≤ length products
 abbrev μ-loop : tie.MeasureT-loop
 μ-loop card products at₀ at = length products - at
 
-loop-holds : tie.Need-loop-holds Inv-loop μ-loop
-loop-holds c = omega arith
-
-sub-loop : tie.Need-sub-loop Inv-loop μ-loop
-sub-loop c = omega arith
-
-pair-requires : tie.Need-pair-requires Inv-loop μ-loop
-pair-requires c κs = omega arith
-
-cast-print-query : tie.Need-cast-print-query Inv-loop μ-loop
-cast-print-query c = omega arith
-
-print-query-requires : tie.Need-print-query-requires Inv-loop μ-loop
-print-query-requires c κs = tt
-
-add-at : tie.Need-add-at Inv-loop μ-loop
-add-at c = omega arith
-
-loop-less : tie.Need-loop-less Inv-loop μ-loop
-loop-less c = omega arith
-
-loop-again : tie.Need-loop-again Inv-loop μ-loop
-loop-again c = omega arith
-
-returns : tie.Need-returns Inv-loop μ-loop
-returns c = tt
-
 pub print-queries-spec : {M : Type 1} → statement M
 print-queries-spec =
-    tie.close
-    (tie.spec
-    Inv-loop
-    μ-loop
-    loop-holds
-    sub-loop
-    pair-requires
-    cast-print-query
-    print-query-requires
-    add-at
-    loop-less
-    loop-again
-    returns)
+    tie.close (tie.spec Inv-loop μ-loop (λ c. omega arith) (λ c. omega arith) (λ c κs. tt) (λ c. omega arith) (λ c κs. tt)
+    (λ c. omega arith) (λ c. omega arith) (λ c. omega arith) (λ c. tt))

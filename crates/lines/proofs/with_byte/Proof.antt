@@ -1,4 +1,4 @@
--- `lines::with_byte` meets its contract. Assumes nothing.
+-- `lines::with_byte` meets its contract.
 use mathlib.Core.Path.{refl}
 use native.Mathlib.Numerals.{add-one}
 use native.Mathlib.Omega.{arith}
@@ -7,12 +7,6 @@ use lib.Seq.{take-suc-set}
 use Rattle.lines.proofs.Lengths.{bytes-length}
 use Rattle.lines.proofs.with_byte.Statement.{statement}
 use Rattle.lines.proofs.with_byte.Tie as tie
-
-array-write-bytes : tie.Need-array-write-bytes
-array-write-bytes c = search needs
-
-add-t8 : tie.Need-add-t8
-add-t8 c = search needs
 
 returns : tie.Need-returns
 returns c =
@@ -23,4 +17,5 @@ returns c =
     )
 
 pub with-byte-spec : {M : Type 1} → statement M
-with-byte-spec = tie.close (tie.spec array-write-bytes add-t8 returns)
+with-byte-spec =
+    tie.close (tie.spec (λ c. search needs) (λ c. search needs) returns)

@@ -1,4 +1,4 @@
--- `lines::with_integer` meets its contract. Assumes nothing.
+-- `lines::with_integer` meets its contract.
 use mathlib.Core.Path.{_≡_, refl, ap, _∙_}
 use mathlib.Core.List.{[], _∷_, append-assoc}
 use native.Mathlib.Omega.{arith}
@@ -27,9 +27,6 @@ not-negative c =
 with-byte-requires : tie.Need-with-byte-requires
 with-byte-requires c κs = omega (arith, ap length (negative c), c .before .pre)
 
-magnitude-requires : tie.Need-magnitude-requires
-magnitude-requires c κs = search needs
-
 with-natural-requires : tie.Need-with-natural-requires
 with-natural-requires c κs =
     let st = c .before .before .before in
@@ -48,9 +45,6 @@ returns c =
       c .with-natural .ensures .1 ∙ rw (m, n) (omega (arith, c .before .before .with-byte .ensures .1)),
     )
 
-magnitude-requires-2 : tie.Need-magnitude-requires-2
-magnitude-requires-2 c κs = search needs
-
 with-natural-requires-2 : tie.Need-with-natural-requires-2
 with-natural-requires-2 c κs =
     let st = c .before .before in
@@ -67,12 +61,5 @@ returns-2 c =
 
 pub with-integer-spec : {M : Type 1} → statement M
 with-integer-spec =
-    tie.close
-    (tie.spec
-    with-byte-requires
-    magnitude-requires
-    with-natural-requires
-    returns
-    magnitude-requires-2
-    with-natural-requires-2
-    returns-2)
+    tie.close (tie.spec with-byte-requires (λ c κs. search needs) with-natural-requires returns (λ c κs. search needs)
+    with-natural-requires-2 returns-2)

@@ -1,19 +1,10 @@
--- `lines::with_letter` meets its contract. Assumes nothing.
+-- `lines::with_letter` meets its contract.
 use mathlib.Core.Path.{refl, _∙_}
 use native.Mathlib.Omega.{arith}
 use borrow.Author.Needs.{needs}
 use Rattle.lines.proofs.Decimals.{decimal-length}
 use Rattle.lines.proofs.with_letter.Statement.{statement}
 use Rattle.lines.proofs.with_letter.Tie as tie
-
-empty-line-requires : tie.Need-empty-line-requires
-empty-line-requires c κs = search needs
-
-with-byte-requires : tie.Need-with-byte-requires
-with-byte-requires c κs = search needs
-
-with-byte-requires-2 : tie.Need-with-byte-requires-2
-with-byte-requires-2 c κs = search needs
 
 with-natural-requires : tie.Need-with-natural-requires
 with-natural-requires c κs =
@@ -37,10 +28,4 @@ returns c =
 
 pub with-letter-spec : {M : Type 1} → statement M
 with-letter-spec =
-    tie.close
-    (tie.spec
-    empty-line-requires
-    with-byte-requires
-    with-byte-requires-2
-    with-natural-requires
-    returns)
+    tie.close (tie.spec (λ c κs. search needs) (λ c κs. search needs) (λ c κs. search needs) with-natural-requires returns)

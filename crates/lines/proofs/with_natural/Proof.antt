@@ -1,4 +1,4 @@
--- `lines::with_natural` meets its contract. Assumes nothing.
+-- `lines::with_natural` meets its contract.
 use mathlib.Core.Path.{_≡_, _∙_}
 use borrow.Author.Needs.{needs}
 use lib.ListN.{take}
@@ -6,15 +6,6 @@ use Rattle.lines.specs.Text.{decimal}
 use Rattle.lines.proofs.Decimals.{digits-decimal}
 use Rattle.lines.proofs.with_natural.Statement.{statement}
 use Rattle.lines.proofs.with_natural.Tie as tie
-
-decimal-requires : tie.Need-decimal-requires
-decimal-requires c κs = search needs
-
-array-share-prefix-text : tie.Need-array-share-prefix-text
-array-share-prefix-text c = search needs
-
-slice-aggregate-with-text : tie.Need-slice-aggregate-with-text
-slice-aggregate-with-text c = search needs
 
 with-text-requires : tie.Need-with-text-requires
 with-text-requires c κs =
@@ -32,10 +23,4 @@ returns c =
 
 pub with-natural-spec : {M : Type 1} → statement M
 with-natural-spec =
-    tie.close
-    (tie.spec
-    decimal-requires
-    array-share-prefix-text
-    slice-aggregate-with-text
-    with-text-requires
-    returns)
+    tie.close (tie.spec (λ c κs. search needs) (λ c. search needs) (λ c. search needs) with-text-requires returns)

@@ -1,4 +1,4 @@
--- `lines::with_text` meets its contract. Assumes nothing.
+-- `lines::with_text` meets its contract.
 use mathlib.Core.Path.{refl, ap, _∙_}
 use Prim.Native.Nat.{_+_}
 use native.Mathlib.Omega.{arith}
@@ -9,16 +9,10 @@ use Rattle.lines.proofs.Lengths.{bytes-length}
 use Rattle.lines.proofs.with_text.Statement.{statement}
 use Rattle.lines.proofs.with_text.Tie as tie
 
-slice-aggregate-copy-at : tie.Need-slice-aggregate-copy-at
-slice-aggregate-copy-at c = search needs
-
 copy-at-requires : tie.Need-copy-at-requires
 copy-at-requires c κs =
     let st = c .before .before .before in
     omega (arith, bytes-length (st .args .line) (st .good .0), st .pre)
-
-add-t10 : tie.Need-add-t10
-add-t10 c = search needs
 
 returns : tie.Need-returns
 returns c =
@@ -32,4 +26,5 @@ returns c =
     )
 
 pub with-text-spec : {M : Type 1} → statement M
-with-text-spec = tie.close (tie.spec slice-aggregate-copy-at copy-at-requires add-t10 returns)
+with-text-spec =
+    tie.close (tie.spec (λ c. search needs) copy-at-requires (λ c. search needs) returns)

@@ -1,4 +1,4 @@
--- `printout::after_row` meets its contract. Assumes nothing.
+-- `printout::after_row` meets its contract.
 use mathlib.Core.Path.{refl}
 use native.Mathlib.Numerals.{add-one}
 use borrow.Author.Tests.{lt-ltb, le-ltb}
@@ -6,9 +6,6 @@ use Rattle.printout.specs.Progress.{afterRow}
 use borrow.Author.Needs.{needs}
 use Rattle.printout.proofs.after_row.Statement.{statement}
 use Rattle.printout.proofs.after_row.Tie as tie
-
-add-t3 : tie.Need-add-t3
-add-t3 c = search needs
 
 returns : tie.Need-returns
 unfolding afterRow
@@ -19,4 +16,5 @@ unfolding afterRow
 returns-2 c = rw (le-ltb _ _ (c .if1 .left)) refl
 
 pub after-row-spec : {M : Type 1} → statement M
-after-row-spec = tie.close (tie.spec add-t3 returns returns-2)
+after-row-spec =
+    tie.close (tie.spec (λ c. search needs) returns returns-2)

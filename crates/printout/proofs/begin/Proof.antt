@@ -1,14 +1,8 @@
--- `printout::begin` meets its contract. Assumes nothing.
+-- `printout::begin` meets its contract.
 use Rattle.printout.proofs.Showing.{begun}
 use borrow.Author.Needs.{needs}
 use Rattle.printout.proofs.begin.Statement.{statement}
 use Rattle.printout.proofs.begin.Tie as tie
-
-open-requires : tie.Need-open-requires
-open-requires c κs = search needs
-
-start-requires : tie.Need-start-requires
-start-requires c κs = search needs
 
 returns : tie.Need-returns
 returns c =
@@ -16,4 +10,5 @@ returns c =
     begun _ (o .result) (c .before .start .result .run) (c .before .start .result .step) (o .ensures) (c .before .start .ensures)
 
 pub begin-spec : {M : Type 1} → statement M
-begin-spec = tie.close (tie.spec open-requires start-requires returns)
+begin-spec =
+    tie.close (tie.spec (λ c κs. search needs) (λ c κs. search needs) returns)

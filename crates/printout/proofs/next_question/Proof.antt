@@ -1,4 +1,4 @@
--- `printout::next_question` meets its contract. Assumes nothing.
+-- `printout::next_question` meets its contract.
 use mir.Syntax.{w64}
 use mir.Val.{SFits}
 use mir.ValLaws.{toZ-ofZ}
@@ -6,24 +6,6 @@ use Rattle.printout.proofs.Showing.{made, numbered, not-shown}
 use borrow.Author.Needs.{needs}
 use Rattle.printout.proofs.next_question.Statement.{statement}
 use Rattle.printout.proofs.next_question.Tie as tie
-
-ask-requires : tie.Need-ask-requires
-ask-requires c κs = search needs
-
-enum-known-z : tie.Need-enum-known-z
-enum-known-z c = search needs
-
-take-answer-requires : tie.Need-take-answer-requires
-take-answer-requires c κs = search needs
-
-enum-known-k : tie.Need-enum-known-k
-enum-known-k c = search needs
-
-refusal-line-requires : tie.Need-refusal-line-requires
-refusal-line-requires c κs = search needs
-
-with-line-requires : tie.Need-with-line-requires
-with-line-requires c κs = search needs
 
 returns : tie.Need-returns
 returns c =
@@ -41,13 +23,5 @@ returns-2 c =
 
 pub next-question-spec : {M : Type 1} → statement M
 next-question-spec =
-    tie.close
-    (tie.spec
-    ask-requires
-    enum-known-z
-    take-answer-requires
-    enum-known-k
-    refusal-line-requires
-    with-line-requires
-    returns
-    returns-2)
+    tie.close (tie.spec (λ c κs. search needs) (λ c. search needs) (λ c κs. search needs) (λ c. search needs) (λ c κs. search needs)
+    (λ c κs. search needs) returns returns-2)

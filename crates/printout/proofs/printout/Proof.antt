@@ -1,4 +1,4 @@
--- `printout::printout` meets its contract. Assumes nothing.
+-- `printout::printout` meets its contract.
 use mathlib.Core.Path.{sym, ap, _∙_}
 use native.Mathlib.Omega.{arith}
 use lib.ListN.{length}
@@ -7,19 +7,10 @@ use borrow.Author.Needs.{needs}
 use Rattle.printout.proofs.printout.Statement.{statement}
 use Rattle.printout.proofs.printout.Tie as tie
 
-slice-aggregate-put-lines : tie.Need-slice-aggregate-put-lines
-slice-aggregate-put-lines c = search needs
-
-put-lines-requires : tie.Need-put-lines-requires
-put-lines-requires c κs = search needs
-
 returns : tie.Need-returns
 returns c =
     let st = c .before .before .before .before .before .before in
     placed-short _ (st .args .out .now) _ (c .before .before .put-lines .ensures .1) (c .if1 .taken)
-
-array-share-prefix-text : tie.Need-array-share-prefix-text
-array-share-prefix-text c = search needs
 
 slice-aggregate-copy-at : tie.Need-slice-aggregate-copy-at
 slice-aggregate-copy-at c =
@@ -31,9 +22,6 @@ copy-at-requires c κs =
     let e = c .before .before .before .before .put-lines .ensures in
     omega (arith, e .1, ap length (e .0), c .before .before .if1 .left)
 
-same-length : tie.Need-same-length
-same-length c = search needs
-
 returns-2 : tie.Need-returns-2
 returns-2 c =
     let st = c .before .before .before .before .before .before .before .before .before .before .before in
@@ -42,13 +30,5 @@ returns-2 c =
 
 pub printout-spec : {M : Type 1} → statement M
 printout-spec =
-    tie.close
-    (tie.spec
-    slice-aggregate-put-lines
-    put-lines-requires
-    returns
-    array-share-prefix-text
-    slice-aggregate-copy-at
-    copy-at-requires
-    same-length
-    returns-2)
+    tie.close (tie.spec (λ c. search needs) (λ c κs. search needs) returns (λ c. search needs) slice-aggregate-copy-at copy-at-requires
+    (λ c. search needs) returns-2)

@@ -27,12 +27,6 @@ copy-at-requires c κs =
     let st = c .before .before .before .before in
     omega (arith, there st, st .pre)
 
-add-result : tie.Need-add-result
-add-result c = search needs
-
-same-length : tie.Need-same-length
-same-length c = search needs
-
 returns : tie.Need-returns
 returns c =
     let st = c .before .before .before .before .before .before .before in
@@ -47,4 +41,5 @@ returns c =
     )
 
 pub put-line-spec : {M : Type 1} → statement M
-put-line-spec = tie.close (tie.spec array-share-prefix-bytes slice-aggregate-copy-at copy-at-requires add-result same-length returns)
+put-line-spec =
+    tie.close (tie.spec array-share-prefix-bytes slice-aggregate-copy-at copy-at-requires (λ c. search needs) (λ c. search needs) returns)

@@ -1,4 +1,4 @@
--- `printout::take_answer` meets its contract. Assumes nothing.
+-- `printout::take_answer` meets its contract.
 use mir.Syntax.{w64}
 use mir.ValLaws.{toZ-ofZ}
 use Rattle.printout.proofs.Showing.{made, asks, ends, refuses}
@@ -6,35 +6,8 @@ use borrow.Author.Needs.{needs}
 use Rattle.printout.proofs.take_answer.Statement.{statement}
 use Rattle.printout.proofs.take_answer.Tie as tie
 
-answer-requires : tie.Need-answer-requires
-answer-requires c κs = search needs
-
-enum-known-step : tie.Need-enum-known-step
-enum-known-step c = search needs
-
-question-line-requires : tie.Need-question-line-requires
-question-line-requires c κs = search needs
-
-with-line-requires : tie.Need-with-line-requires
-with-line-requires c κs = search needs
-
 enum-told : tie.Need-enum-told
 enum-told c = search needs
-
-question-line-requires-2 : tie.Need-question-line-requires-2
-question-line-requires-2 c κs = search needs
-
-with-line-requires-2 : tie.Need-with-line-requires-2
-with-line-requires-2 c κs = search needs
-
-enum-known-step-2 : tie.Need-enum-known-step-2
-enum-known-step-2 c = search needs
-
-refusal-line-requires : tie.Need-refusal-line-requires
-refusal-line-requires c κs = search needs
-
-with-line-requires-3 : tie.Need-with-line-requires-3
-with-line-requires-3 c κs = search needs
 
 returns : tie.Need-returns
 returns c =
@@ -65,18 +38,6 @@ returns-3 c =
 
 pub take-answer-spec : {M : Type 1} → statement M
 take-answer-spec =
-    tie.close
-    (tie.spec
-    answer-requires
-    enum-known-step
-    question-line-requires
-    with-line-requires
-    enum-told
-    question-line-requires-2
-    with-line-requires-2
-    enum-known-step-2
-    refusal-line-requires
-    with-line-requires-3
-    returns
-    returns-2
+    tie.close (tie.spec (λ c κs. search needs) (λ c. search needs) (λ c κs. search needs) (λ c κs. search needs) enum-told
+    (λ c κs. search needs) (λ c κs. search needs) (λ c. search needs) (λ c κs. search needs) (λ c κs. search needs) returns returns-2
     returns-3)

@@ -1,4 +1,4 @@
--- `run_tests::signed` is safe: less one, and less a number below 2^63, is still a number of 64 bits. Assumes nothing.
+-- `run_tests::signed` is safe: less one, and less a number below 2^63, is still a number of 64 bits.
 use mathlib.Core.Path.{_≡_}
 use Prim.Native.Nat.{ℕ, _-_, _<_}
 use native.Mathlib.Omega.{arith}
@@ -16,24 +16,9 @@ less-fits n h =
     let e : toZ w64 n ≡ pos n = toZ-pos w64 (omega arith) in
     rw e (omega (int, dif (negsuc 0) (pos n), mag-is (negsuc 0 -ℤ pos n), side (negsuc 0 -ℤ pos n)))
 
-cast-result : tie.Need-cast-result
-cast-result c = search needs
-
-returns : tie.Need-returns
-returns c = search needs
-
-sub-result : tie.Need-sub-result
-sub-result c = search needs
-
-cast-result-2 : tie.Need-cast-result-2
-cast-result-2 c = search needs
-
 sub-result-2 : tie.Need-sub-result-2
 sub-result-2 c = less-fits (18446744073709551615 - c .before .args .bits) (omega arith)
 
-returns-2 : tie.Need-returns-2
-returns-2 c = search needs
-
 pub signed-spec : {M : Type 1} → statement M
 signed-spec =
-    tie.close (tie.spec cast-result returns sub-result cast-result-2 sub-result-2 returns-2)
+    tie.close (tie.spec (λ c. search needs) (λ c. search needs) (λ c. search needs) (λ c. search needs) sub-result-2 (λ c. search needs))

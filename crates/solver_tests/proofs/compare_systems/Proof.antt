@@ -1,4 +1,4 @@
--- `solver_tests::compare_systems` is safe, ends, and passes at most 514 bytes with each system. Assumes nothing.
+-- `solver_tests::compare_systems` is safe, ends, and passes at most 514 bytes with each system.
 use Prim.Native.Nat.{_≤_, _-_, _+_, _*_}
 use borrow.Author.Needs.{needs}
 use Rattle.solver_tests.proofs.compare_systems.Statement.{statement}
@@ -10,33 +10,7 @@ Inv-loop file at q s patterns tally₀ next₀ k₀ tally next k = (k ≤ q) × 
 abbrev μ-loop : tie.MeasureT-loop
 μ-loop file at q s patterns tally₀ next₀ k₀ tally next k = q - k
 
-loop-holds : tie.Need-loop-holds Inv-loop μ-loop
-loop-holds c = search needs
-
-compare-system-requires : tie.Need-compare-system-requires Inv-loop μ-loop
-compare-system-requires c κs = search needs
-
-add-k : tie.Need-add-k Inv-loop μ-loop
-add-k c = search needs
-
-loop-less : tie.Need-loop-less Inv-loop μ-loop
-loop-less c = search needs
-
-loop-again : tie.Need-loop-again Inv-loop μ-loop
-loop-again c = search needs
-
-returns : tie.Need-returns Inv-loop μ-loop
-returns c = search needs
-
 pub compare-systems-spec : {M : Type 1} → statement M
 compare-systems-spec =
-    tie.close
-    (tie.spec
-    Inv-loop
-    μ-loop
-    loop-holds
-    compare-system-requires
-    add-k
-    loop-less
-    loop-again
-    returns)
+    tie.close (tie.spec Inv-loop μ-loop (λ c. search needs) (λ c κs. search needs) (λ c. search needs) (λ c. search needs)
+    (λ c. search needs) (λ c. search needs))

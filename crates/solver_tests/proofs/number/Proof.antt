@@ -1,4 +1,4 @@
--- `solver_tests::number` is safe: a code less the middle fits. Assumes nothing.
+-- `solver_tests::number` is safe: a code less the middle fits.
 use mathlib.Core.Path.{_≡_}
 use Prim.Native.Nat.{ℕ, _<_}
 use native.Mathlib.Omega.{arith}
@@ -16,24 +16,9 @@ less-fits n h =
     let e : toZ w64 n ≡ pos n = toZ-pos w64 (omega arith) in
     rw e (omega (int, dif (pos n) (pos 124), parts (pos n -ℤ pos 124)))
 
-cast-result : tie.Need-cast-result
-cast-result c = search needs
-
 sub-result : tie.Need-sub-result
 sub-result c = less-fits (c .before .args .code) (search needs)
 
-returns : tie.Need-returns
-returns c = search needs
-
-mul-result : tie.Need-mul-result
-mul-result c = search needs
-
-array-copy-out-result : tie.Need-array-copy-out-result
-array-copy-out-result c = search needs
-
-returns-2 : tie.Need-returns-2
-returns-2 c = search needs
-
 pub number-spec : {M : Type 1} → statement M
 number-spec =
-    tie.close (tie.spec cast-result sub-result returns mul-result array-copy-out-result returns-2)
+    tie.close (tie.spec (λ c. search needs) sub-result (λ c. search needs) (λ c. search needs) (λ c. search needs) (λ c. search needs))

@@ -1,4 +1,4 @@
--- `solver_tests::print_kinds` is safe and ends. Assumes nothing.
+-- `solver_tests::print_kinds` is safe and ends.
 use Prim.Native.Nat.{_≤_, _-_}
 use borrow.Author.Needs.{needs}
 use Rattle.solver_tests.proofs.print_kinds.Statement.{statement}
@@ -10,41 +10,7 @@ Inv-loop tally k₀ k = k ≤ 15
 abbrev μ-loop : tie.MeasureT-loop
 μ-loop tally k₀ k = 15 - k
 
-loop-holds : tie.Need-loop-holds Inv-loop μ-loop
-loop-holds c = search needs
-
-mul-print-kind : tie.Need-mul-print-kind Inv-loop μ-loop
-mul-print-kind c = search needs
-
-element-copy-out-print-kind : tie.Need-element-copy-out-print-kind Inv-loop μ-loop
-element-copy-out-print-kind c = search needs
-
-print-kind-requires : tie.Need-print-kind-requires Inv-loop μ-loop
-print-kind-requires c κs = search needs
-
-add-k : tie.Need-add-k Inv-loop μ-loop
-add-k c = search needs
-
-loop-less : tie.Need-loop-less Inv-loop μ-loop
-loop-less c = search needs
-
-loop-again : tie.Need-loop-again Inv-loop μ-loop
-loop-again c = search needs
-
-returns : tie.Need-returns Inv-loop μ-loop
-returns c = search needs
-
 pub print-kinds-spec : {M : Type 1} → statement M
 print-kinds-spec =
-    tie.close
-    (tie.spec
-    Inv-loop
-    μ-loop
-    loop-holds
-    mul-print-kind
-    element-copy-out-print-kind
-    print-kind-requires
-    add-k
-    loop-less
-    loop-again
-    returns)
+    tie.close (tie.spec Inv-loop μ-loop (λ c. search needs) (λ c. search needs) (λ c. search needs) (λ c κs. search needs)
+    (λ c. search needs) (λ c. search needs) (λ c. search needs) (λ c. search needs))

@@ -13,12 +13,6 @@ use Rattle.tarski.proofs.flat.Tie as tie
 shown : ℤ → Number
 shown z = record { number = z; refusal = 0 }
 
-enum-known-answer : tie.Need-enum-known-answer
-enum-known-answer c = search needs
-
-enum-known-answer-2 : tie.Need-enum-known-answer-2
-enum-known-answer-2 c = search needs
-
 returns : tie.Need-returns
 unfolding numberOf shown
 returns c = ap shown (toZ-ofZ w64 _ (record { sfits = c .known-told .given .0 .1 })) ∙ ap numberOf (sym (c .before .answer .given .1))
@@ -28,4 +22,5 @@ unfolding numberOf
 returns-2 c = ap numberOf (sym (c .before .answer2 .given .1))
 
 pub flat-spec : {M : Type 1} → statement M
-flat-spec = tie.close (tie.spec enum-known-answer enum-known-answer-2 returns returns-2)
+flat-spec =
+    tie.close (tie.spec (λ c. search needs) (λ c. search needs) returns returns-2)

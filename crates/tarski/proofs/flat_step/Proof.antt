@@ -12,14 +12,8 @@ use Rattle.tarski.proofs.flat_step.Tie as tie
 shown : Step → FlatStep
 shown step = flatStepOf (stepOf step)
 
-enum-known-step : tie.Need-enum-known-step
-enum-known-step c = search needs
-
 enum-told : tie.Need-enum-told
 enum-told c = search needs
-
-enum-known-step-2 : tie.Need-enum-known-step-2
-enum-known-step-2 c = search needs
 
 returns : tie.Need-returns
 unfolding shown flatStepOf
@@ -35,4 +29,4 @@ returns-3 c = ap shown (sym (c .before .step2 .given .1))
 
 pub flat-step-spec : {M : Type 1} → statement M
 flat-step-spec =
-    tie.close (tie.spec enum-known-step enum-told enum-known-step-2 returns returns-2 returns-3)
+    tie.close (tie.spec (λ c. search needs) enum-told (λ c. search needs) returns returns-2 returns-3)

@@ -5,14 +5,9 @@ use borrow.Author.Needs.{needs}
 use Rattle.tarski.proofs.number_on.Statement.{statement}
 use Rattle.tarski.proofs.number_on.Tie as tie
 
-ask-requires : tie.Need-ask-requires
-ask-requires c κs = search needs
-
-flat-requires : tie.Need-flat-requires
-flat-requires c κs = search needs
-
 returns : tie.Need-returns
 returns c = c .flat .ensures ∙ ap numberOf (c .before .ask .ensures)
 
 pub number-on-spec : {M : Type 1} → statement M
-number-on-spec = tie.close (tie.spec ask-requires flat-requires returns)
+number-on-spec =
+    tie.close (tie.spec (λ c κs. search needs) (λ c κs. search needs) returns)

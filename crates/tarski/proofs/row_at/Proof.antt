@@ -12,15 +12,6 @@ use Rattle.tarski.proofs.row_at.Tie as tie
 shown : Fetched → FlatRow
 shown found = rowOf (fetchedOf found)
 
-fetch-row-requires : tie.Need-fetch-row-requires
-fetch-row-requires c κs = search needs
-
-enum-known-row : tie.Need-enum-known-row
-enum-known-row c = search needs
-
-enum-known-k : tie.Need-enum-known-k
-enum-known-k c = search needs
-
 returns : tie.Need-returns
 unfolding shown rowOf
 returns c = ap shown (sym (c .before .row .given .1)) ∙ ap rowOf (c .before .before .before .fetch-row .ensures)
@@ -30,4 +21,5 @@ unfolding shown rowOf
 returns-2 c = ap shown (sym (c .before .k .given .1)) ∙ ap rowOf (c .before .before .before .fetch-row .ensures)
 
 pub row-at-spec : {M : Type 1} → statement M
-row-at-spec = tie.close (tie.spec fetch-row-requires enum-known-row enum-known-k returns returns-2)
+row-at-spec =
+    tie.close (tie.spec (λ c κs. search needs) (λ c. search needs) (λ c. search needs) returns returns-2)

@@ -16,49 +16,22 @@ shown : Copied → FlatCopied
 shown found = copiedOf (record-of.copiedOf found)
 
 -- the slices a and b left with it
-left : (found : Copied) (a b : List ℕ) (t : FlatCopied) (c : Copy) → t ≡ shown found → record { result = record-of.copiedOf found; patterns-left = a; counts-left = b } ≡ c → (t, a, b) ≡ leftOf c
+left : (found : Copied) (a b : List ℕ) (t : FlatCopied) (c : Copy) → t ≡ shown found → record
+    { result = record-of.copiedOf found; patterns-left = a; counts-left = b } ≡ c → (t, a, b) ≡ leftOf c
 unfolding shown
 left found a b t c e f = ap (λ (u : FlatCopied). (u, a, b)) e ∙ ap leftOf f
 
-copy-rows-requires : tie.Need-copy-rows-requires
-copy-rows-requires c κs = search needs
-
-enum-known-n : tie.Need-enum-known-n
-enum-known-n c = search needs
-
-enum-known-k : tie.Need-enum-known-k
-enum-known-k c = search needs
-
-same-length : tie.Need-same-length
-same-length c = search needs
-
-same-length-2 : tie.Need-same-length-2
-same-length-2 c = search needs
-
 returns : tie.Need-returns
 unfolding shown copiedOf
-returns c = let it = c .before .before .before .before .before .before .before .copy-rows in left (it .result) _ _ _ _ (ap shown (sym (c .before .n .given .1))) (it .ensures)
-
-same-length-3 : tie.Need-same-length-3
-same-length-3 c = search needs
-
-same-length-4 : tie.Need-same-length-4
-same-length-4 c = search needs
+returns c = let it = c .before .before .before .before .before .before .before .copy-rows in left (it .result) _ _ _ _
+    (ap shown (sym (c .before .n .given .1))) (it .ensures)
 
 returns-2 : tie.Need-returns-2
 unfolding shown copiedOf
-returns-2 c = let it = c .before .before .before .before .before .before .before .copy-rows in left (it .result) _ _ _ _ (ap shown (sym (c .before .k .given .1))) (it .ensures)
+returns-2 c = let it = c .before .before .before .before .before .before .before .copy-rows in left (it .result) _ _ _ _
+    (ap shown (sym (c .before .k .given .1))) (it .ensures)
 
 pub rows-to-spec : {M : Type 1} → statement M
 rows-to-spec =
-    tie.close
-    (tie.spec
-    copy-rows-requires
-    enum-known-n
-    enum-known-k
-    same-length
-    same-length-2
-    returns
-    same-length-3
-    same-length-4
-    returns-2)
+    tie.close (tie.spec (λ c κs. search needs) (λ c. search needs) (λ c. search needs) (λ c. search needs) (λ c. search needs) returns
+    (λ c. search needs) (λ c. search needs) returns-2)

@@ -30,9 +30,10 @@ use denote.Triple.Walked.{says, Stays, stay-none-ref, walkOf, goes-none-ref, end
 use denote.Exit.{yes}
 use Rattle.determination.specs.Record.{stateOf}
 use Rattle.determination.specs.declared.Run.{Run}
-use Rattle.determination.proofs.Thin.{Data, Good, owned-of, calls-plain}
+use Rattle.determination.proofs.Lent.{run as run-piece}
+use Rattle.determination.proofs.Pieces.{pieceOf}
+use Rattle.determination.proofs.Thin.{Data, Good, unsigned, owned-of, looked, shut, calls-plain}
 use Rattle.determination.proofs.Run as T
-use Rattle.tarski.proofs.Lent.{unsigned, RunD, looked, shut}
 use Rattle.determination.proofs.asked as take
 use Rattle.determination.proofs.asked.Symbol as take-def
 use Rattle.determination.proofs.asked.Symbol.{name as #determination·asked}
@@ -44,7 +45,7 @@ use Rattle.tarski.proofs.tarski_asked.Code as code
 
 -- the types of the walk, with their laws: the record, and the result
 abbrev D : Data
-D = RunD
+D = pieceOf run-piece
 
 abbrev NumD : Data
 NumD = unsigned w64
@@ -56,7 +57,8 @@ stayed = (stay-none-ref (0 ∷ []) tt (plain (λ _. T.the-row)) yes, tt)
 abbrev Take : {M : Type 1} (𝓤 : URA M) (H : Heap 𝓤) (A : Atoms 𝓤) (mem : Memory → SProp 𝓤) (run : Routine → Fun 𝓤) → Contract 𝓤
 Take 𝓤 H A mem run = tripleOf 𝓤 H A take.signature (take.spec 𝓤 H A mem run)
 
-module _ {M : Type 1} (𝓤 : URA M) (H : Heap 𝓤) (A : Atoms 𝓤) (W : Given 𝓤 H A) (mem : Memory → SProp 𝓤) (run : Routine → Fun 𝓤) (κ : Lft) (q : Share) (x : RefT Run) where
+module _ {M : Type 1} (𝓤 : URA M) (H : Heap 𝓤) (A : Atoms 𝓤) (W : Given 𝓤 H A) (mem : Memory → SProp 𝓤) (run : Routine → Fun 𝓤) (κ : Lft)
+    (q : Share) (x : RefT Run) where
   abbrev h : Run
   h = x .now
 
@@ -86,8 +88,10 @@ module _ {M : Type 1} (𝓤 : URA M) (H : Heap 𝓤) (A : Atoms 𝓤) (W : Given
   exits : (r : NumD .row .Denot) → Gives r → Good NumD r → ent 𝓤 (⋆ 𝓤 H A (‵ (flft κ q) ∷ ‵ Ref ∷ [])) (Post (NumD .val r))
   exits r e r-is =
       qed W (‵ (flft κ q) ∷ ‵ Ref ∷ []) ∵
-      suffices ! _ (ends-at 𝓤 H A lent.ended stayed (lent.clauses 𝓤 H A mem run) W (((κ, tt), (q, tt), tt, (x, tt), at), tt) (NumD .val r) r (tt, tt) (tt, tt)) $ says ! e $
-      nothing ! $ move ! (1 ∷ 0 ∷ []) $ join ! $ frame ! $ nothing ! $ move ! (1 ∷ 0 ∷ []) $ fjoin ! $ frame ! $ owned-of ! NumD r r-is $ done !
+      suffices ! _ (ends-at 𝓤 H A lent.ended stayed (lent.clauses 𝓤 H A mem run) W (((κ, tt), (q, tt), tt, (x, tt), at), tt) (NumD .val r)
+      r (tt, tt) (tt, tt)) $ says ! e $
+      nothing ! $ move ! (1 ∷ 0 ∷ []) $ join ! $ frame ! $ nothing ! $ move ! (1 ∷ 0 ∷ []) $ fjoin ! $ frame ! $ owned-of ! NumD r r-is $
+      done !
 
   -- what the call passes, and that it may
   abbrev to : Take 𝓤 H A mem run .Ghost
@@ -101,18 +105,21 @@ module _ {M : Type 1} (𝓤 : URA M) (H : Heap 𝓤) (A : Atoms 𝓤) (W : Given
     walk =
         qed W ((‵ (flft κ q) ⊛ ‵ ftrue) ∷ ‵ (owns (ShrRef (named 0) κ T.the-row ∷ []) (x, tt) at) ∷ []) ∵
         -- what the reference owns is had twice: of one copy only the fractured borrow is kept
-        split ! $ move ! (2 ∷ []) $ fsplit ! $ use1 W (‵ Ref ⊛ ‵ Ref) (shr-copy 𝓤 H A W (named 0) κ T.the-row .twice x (p ∷ [])) $ split ! $ fsplit3 ! $ drop ! $ drop ! $ keep ! (0 ∷ 3 ∷ 1 ∷ []) $
+        split ! $ move ! (2 ∷ []) $ fsplit ! $ use1 W (‵ Ref ⊛ ‵ Ref) (shr-copy 𝓤 H A W (named 0) κ T.the-row .twice x (p ∷ [])) $ split !
+        $ fsplit3 ! $ drop ! $ drop ! $ keep ! (0 ∷ 3 ∷ 1 ∷ []) $
         -- [the fractured borrow; the token; what the reference owns]
         enter ! C Λ code.function (p ∷ []) _ $
         alloc1 ! (λ l₀. alloc1 ! (λ l₁. alloc1 ! (λ l₂. alloc0 ! $ params1 ! $ pass1 ! (init ! 2 refl (tt, tt)) $ pass0 ! $
         -- _2 = *run
         move ! (6 ∷ 7 ∷ []) $ looked ! tt D h b o (λ t h-is.
         -- [a share of the cell; what shuts it; the fractured borrow; _2; …; _1; …; room for _0; …; what the reference owns]
-        assigns ! (of-opd ! (load ! (from ! (hop ! (look ! 5 refl) (stop !))) (look-raw ! 0 refl))) (from ! (stop !)) (init ! 3 refl (D .lawful 𝓤 H A W .typed h _ h-is .0)) $
+        assigns ! (of-opd ! (load ! (from ! (hop ! (look ! 5 refl) (stop !))) (look-raw ! 0 refl))) (from ! (stop !))
+        (init ! 3 refl (D .lawful 𝓤 H A W .typed h _ h-is .0)) $
         shut ! tt D t h h-is b o $
         -- _0 = asked(_2)
         use0 W (raw (Take 𝓤 H A mem run .pre to)) (asked h-is) $
-        calls-plain ! fm take.ended (take.clauses 𝓤 H A mem run) known to (and-then ! (load ! (from ! (stop !)) (look ! 3 refl)) (no-more !))
+        calls-plain ! fm take.ended (take.clauses 𝓤 H A mem run) known to
+        (and-then ! (load ! (from ! (stop !)) (look ! 3 refl)) (no-more !))
         (NumD .val) (NumD .tells) Gives (λ r _. id⊢ 𝓤 _) (λ r e r-is. drop ! $
         -- [the token; the fractured borrow; _2; …; _1; …; room for _0; …; what the reference owns]
         land ! (from ! (stop !)) (init ! 6 refl (NumD .lawful 𝓤 H A W .typed r _ r-is .0)) $
@@ -120,13 +127,18 @@ module _ {M : Type 1} (𝓤 : URA M) (H : Heap 𝓤) (A : Atoms 𝓤) (W : Given
         move ! (6 ∷ 7 ∷ []) $ free1 ! $ move ! (4 ∷ 5 ∷ []) $ free1 ! $ move ! (2 ∷ 3 ∷ []) $ free1 ! $ free0 ! $
         keep ! (0 ∷ 2 ∷ []) $ by ! (exits r e r-is))))))
 
-module _ {M : Type 1} (𝓤 : URA M) (H : Heap 𝓤) (A : Atoms 𝓤) (W : Given 𝓤 H A) (mem : Memory → SProp 𝓤) (run : Routine → Fun 𝓤) (𝓣 : Tables 𝓤 H) where
-  lent-meets : Triple 𝓤 (𝓣 .C #determination·asked) (Take 𝓤 H A mem run) → Meets 𝓤 H A lent.signature (WpFn 𝓤 H (𝓣 .C) (𝓣 .Λ) code.function) (lent.spec 𝓤 H A mem run)
+module _ {M : Type 1} (𝓤 : URA M) (H : Heap 𝓤) (A : Atoms 𝓤) (W : Given 𝓤 H A) (mem : Memory → SProp 𝓤) (run : Routine → Fun 𝓤)
+    (𝓣 : Tables 𝓤 H) where
+  lent-meets : Triple 𝓤 (𝓣 .C #determination·asked) (Take 𝓤 H A mem run) → Meets 𝓤 H A lent.signature
+      (WpFn 𝓤 H (𝓣 .C) (𝓣 .Λ) code.function) (lent.spec 𝓤 H A mem run)
   lent-meets known =
-      walk-meets 𝓤 H A lent.ended stayed W (goes-none-ref 𝓤 H A W 1 (0 ∷ []) tt (plain (λ _. T.the-row)) yes, tt) (lent.clauses 𝓤 H A mem run) (WpFn 𝓤 H (𝓣 .C) (𝓣 .Λ) code.function)
+      walk-meets 𝓤 H A lent.ended stayed W (goes-none-ref 𝓤 H A W 1 (0 ∷ []) tt (plain (λ _. T.the-row)) yes, tt)
+      (lent.clauses 𝓤 H A mem run) (WpFn 𝓤 H (𝓣 .C) (𝓣 .Λ) code.function)
       (WpFn-mono 𝓤 H (W .laws) 𝓣 code.function)
-      (walked 𝓤 H A lent.ended stayed (lent.clauses 𝓤 H A mem run) (WpFn 𝓤 H (𝓣 .C) (𝓣 .Λ) code.function) (λ κs. (ptr-vals, tt)) (λ κs. (shr-tells (named 0) (κs .0) T.the-row, tt))
-      (λ κs qs bounds a g are. via 𝓤 _ (fst∗ 𝓤 _ (emp 𝓤)) (walk 𝓤 H A W mem run (κs .0) (qs .0) (a .0) (𝓣 .C) (𝓣 .Λ) (fmOf 𝓤 H (W .laws) 𝓣) known)))
+      (walked 𝓤 H A lent.ended stayed (lent.clauses 𝓤 H A mem run) (WpFn 𝓤 H (𝓣 .C) (𝓣 .Λ) code.function) (λ κs. (ptr-vals, tt))
+      (λ κs. (shr-tells (named 0) (κs .0) T.the-row, tt))
+      (λ κs qs bounds a g are. via 𝓤 _ (fst∗ 𝓤 _ (emp 𝓤)) (walk 𝓤 H A W mem run (κs .0) (qs .0) (a .0) (𝓣 .C) (𝓣 .Λ)
+      (fmOf 𝓤 H (W .laws) 𝓣) known)))
 
 pub tarski-asked-spec : {M : Type 1} → stated.statement M
 unfolding code.routine tablesOf
@@ -134,4 +146,5 @@ tarski-asked-spec 𝓤 H 𝓜 𝓖 𝓡 =
     entered 𝓤 H (tripleOf 𝓤 H (𝓖 .A) lent.signature (lent.spec 𝓤 H (𝓖 .A) (𝓜 .mem) (𝓡 .run)))
     (tables 𝓤 H 𝓜 𝓡 code.env .C) (tables 𝓤 H 𝓜 𝓡 code.env .Λ) #tarski·tarski-asked code.function (code.unfolded 𝓤 H 𝓜 𝓡)
     (lent-meets 𝓤 H (𝓖 .A) (givenOf 𝓤 H 𝓜 𝓖) (𝓜 .mem) (𝓡 .run) (tablesOf 𝓤 H 𝓜 (tables 𝓤 H 𝓜 𝓡 code.env))
-    (cited 𝓤 H (Take 𝓤 H (𝓖 .A) (𝓜 .mem) (𝓡 .run)) 𝓜 𝓡 code.env #determination·asked take-def.routine code.calls-determination·asked (take-thm.met 𝓤 H 𝓜 𝓖 𝓡)))
+    (cited 𝓤 H (Take 𝓤 H (𝓖 .A) (𝓜 .mem) (𝓡 .run)) 𝓜 𝓡 code.env #determination·asked take-def.routine code.calls-determination·asked
+    (take-thm.met 𝓤 H 𝓜 𝓖 𝓡)))

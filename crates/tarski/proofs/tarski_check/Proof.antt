@@ -5,18 +5,6 @@ use borrow.Author.Needs.{needs}
 use Rattle.tarski.proofs.tarski_check.Statement.{statement}
 use Rattle.tarski.proofs.tarski_check.Tie as tie
 
-read-requires : tie.Need-read-requires
-read-requires c κs = search needs
-
-enum-known-s : tie.Need-enum-known-s
-enum-known-s c = search needs
-
-enum-known-k : tie.Need-enum-known-k
-enum-known-k c = search needs
-
-cast-t7 : tie.Need-cast-t7
-cast-t7 c = search needs
-
 returns : tie.Need-returns
 unfolding cardOf
 returns c = ap cardOf (sym (c .before .s .given .1) ∙ c .before .before .before .read .ensures)
@@ -27,4 +15,4 @@ returns-2 c = ap cardOf (sym (c .before .k .given .1) ∙ c .before .before .bef
 
 pub tarski-check-spec : {M : Type 1} → statement M
 tarski-check-spec =
-    tie.close (tie.spec read-requires enum-known-s enum-known-k cast-t7 returns returns-2)
+    tie.close (tie.spec (λ c κs. search needs) (λ c. search needs) (λ c. search needs) (λ c. search needs) returns returns-2)

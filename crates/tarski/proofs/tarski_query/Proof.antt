@@ -5,14 +5,9 @@ use borrow.Author.Needs.{needs}
 use Rattle.tarski.proofs.tarski_query.Statement.{statement}
 use Rattle.tarski.proofs.tarski_query.Tie as tie
 
-query-requires : tie.Need-query-requires
-query-requires c κs = search needs
-
-flat-requires : tie.Need-flat-requires
-flat-requires c κs = search needs
-
 returns : tie.Need-returns
 returns c = c .flat .ensures ∙ ap numberOf (c .before .query .ensures)
 
 pub tarski-query-spec : {M : Type 1} → statement M
-tarski-query-spec = tie.close (tie.spec query-requires flat-requires returns)
+tarski-query-spec =
+    tie.close (tie.spec (λ c κs. search needs) (λ c κs. search needs) returns)
