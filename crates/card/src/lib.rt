@@ -74,6 +74,6 @@ pub fn value(card: &[u8], j: usize, x: i8) -> Evaluated
     if number != NONE {
         return Evaluated::Refused(number);
     }
-    let p = layout::values::polynomial(card, layout::offset(card, j));
+    let p = layout::polynomial(card, layout::offset(card, j));
     Evaluated::Value(polynomials::evaluate(&p, x as i64))
 }

@@ -1,11 +1,12 @@
 // The numbers that stand on a card (document 01, "The card"), read off its bytes, and the coefficients of its polynomials. Each call asks that the
 // bytes it reads are there; the crate `card` checks a whole card.
-pub mod values;
-
 ghost use mathlib.Core.Path.{_≡_};
 ghost use Prim.Native.Nat.{_+_, _*_, _≤_, _<_};
 ghost use lib.ListN.{length};
+ghost use Rattle.layout.specs.Body.{Whole};
+ghost use Rattle.layout.specs.Values.{polynomial};
 ghost use Rattle.layout.specs.Format.{first, offset, size, word, coefficient, point, two's};
+use polynomials::MOST_COEFFICIENTS;
 
 // A byte as a wider number.
 pub fn wide(x: u8) -> usize
@@ -70,6 +71,21 @@ pub fn coefficient(card: &[u8], at: usize, i: usize) -> i64
     ensures { λ r. ⌜ r ≡ coefficient (now (card .entry)) at i ⌝ }
 {
     signed(word(card, at + 1 + 4 * i), 2147483648)
+}
+
+// The coefficients of the polynomial that begins at byte at, from the constant up, and 0 above its degree.
+pub fn polynomial(card: &[u8], at: usize) -> [i64; MOST_COEFFICIENTS]
+    requires { ⌜ Whole (now card) at ⌝ }
+    ensures { λ r. ⌜ r ≡ polynomial (now (card .entry)) at ⌝ }
+{
+    let d = wide(card[at]);
+    let mut p = [0i64; MOST_COEFFICIENTS];
+    let mut i = 0;
+    while i <= d {
+        p[i] = coefficient(card, at, i);
+        i += 1;
+    }
+    p
 }
 
 // Point k of the points that begin at byte at.

@@ -16,7 +16,6 @@ ghost use Rattle.card.specs.Sound.{Sound};
 ghost use Rattle.query.specs.Opened.{signWord, evaluated, opened, summed, answer};
 ghost use Rattle.query.specs.Query.{queryAnswer};
 use card::Card;
-use layout::values;
 use refusals::MOST_POINTS;
 use refusals::MOST_POLYNOMIALS;
 use refusals::NONE;
@@ -57,7 +56,7 @@ fn mark(card: &[u8], j: usize, from: usize, n: usize) -> Signs
     requires { ⌜ Sound (now card) × (j < polynomials (now card)) × (from ≡ points-at (now card)) × (n ≡ points (now card)) ⌝ }
     ensures { λ r. ⌜ (r .positive ≡ signWord (contentsOf (now (card .entry))) 1 j) × (r .negative ≡ signWord (contentsOf (now (card .entry))) 2 j) ⌝ }
 {
-    let p = values::polynomial(card, layout::offset(card, j));
+    let p = layout::polynomial(card, layout::offset(card, j));
     let mut positive: u64 = 0;
     let mut negative: u64 = 0;
     let mut k = n;

@@ -1,4 +1,4 @@
--- `layout::values::polynomial` meets its contract. The loop's invariant: p has the coefficients below i, and 0 from there on. Assumes nothing.
+-- `layout::polynomial` meets its contract. The loop's invariant: p has the coefficients below i, and 0 from there on. Assumes nothing.
 use mir.Facts.{toZ-ofZ}
 use borrow.Author.Needs.{sfits-of}
 use mathlib.Core.Path.{_≡_, refl, ap, _∙_}
@@ -10,8 +10,8 @@ use lib.IntN.{ℤ, pos}
 use Rattle.layout.specs.Format.{degree, coefficient}
 use Rattle.layout.specs.Values.{up-to, polynomial}
 use Rattle.layout.proofs.Coefficients.{from-zero, stored, filled}
-use Rattle.layout.proofs.values.polynomial.Statement.{statement}
-use Rattle.layout.proofs.values.polynomial.Tie as tie
+use Rattle.layout.proofs.polynomial.Statement.{statement}
+use Rattle.layout.proofs.polynomial.Tie as tie
 
 abbrev Inv-loop : tie.InvT-loop
 Inv-loop card at d p₀ i₀ p i =
