@@ -93,34 +93,34 @@ first-limits s g h = rw (le-leb 1 s g, le-leb s 8 h, le-leb 0 s (omega arith)) r
 
 -- ---- a record
 
-pub sound-limits : (r : Run) → isSound r ≡ true → Limits (r .polynomials) (r .asked) (r .round) (r .points) (r .rows) (r .answered)
+pub sound-limits : (r : Run) → isSound r ≡ true → Limits (r .polynomials) (r .asked) (r .round) (r .n) (r .rows) (r .answered)
 unfolding isSound
-sound-limits r e = limits-from _ _ _ _ _ _ (both-left (inLimits (r .polynomials) (r .asked) (r .round) (r .points) (r .rows) (r .answered)) _ e)
+sound-limits r e = limits-from _ _ _ _ _ _ (both-left (inLimits (r .polynomials) (r .asked) (r .round) (r .n) (r .rows) (r .answered)) _ e)
 
 pub sound-below : (r : Run) → isSound r ≡ true → 0 < r .round → Below (3 ^ (r .round - 1)) (take (r .rows) (r .products))
 unfolding isSound
 sound-below r e h =
-    let t = both-right (inLimits (r .polynomials) (r .asked) (r .round) (r .points) (r .rows) (r .answered)) _ e in
+    let t = both-right (inLimits (r .polynomials) (r .asked) (r .round) (r .n) (r .rows) (r .answered)) _ e in
     below-from _ _ (rw (ne-eqb (r .round) 0 (λ z. omega arith)) at t)
 
-pub sound-to : (r : Run) → 0 < r .round → inLimits (r .polynomials) (r .asked) (r .round) (r .points) (r .rows) (r .answered) ≡ true
+pub sound-to : (r : Run) → 0 < r .round → inLimits (r .polynomials) (r .asked) (r .round) (r .n) (r .rows) (r .answered) ≡ true
     → Below (3 ^ (r .round - 1)) (take (r .rows) (r .products)) → isSound r ≡ true
 unfolding isSound
 sound-to r h e b =
     rw (e, ne-eqb (r .round) 0 (λ z. omega arith), below-test (3 ^ (r .round - 1)) (take (r .rows) (r .products)) b) refl
 
-pub first-sound : (r : Run) (s : ℕ) → 1 ≤ s → s ≤ 8 → r .polynomials ≡ s → r .asked ≡ 0 → r .round ≡ 0 → r .points ≡ 0 → r .rows ≡ 0 → r .answered ≡ 0
+pub first-sound : (r : Run) (s : ℕ) → 1 ≤ s → s ≤ 8 → r .polynomials ≡ s → r .asked ≡ 0 → r .round ≡ 0 → r .n ≡ 0 → r .rows ≡ 0 → r .answered ≡ 0
     → isSound r ≡ true
 unfolding isSound
 first-sound r s g h e₁ e₂ e₃ e₄ e₅ e₆ =
-    let t : inLimits (r .polynomials) (r .asked) (r .round) (r .points) (r .rows) (r .answered) ≡ true = cc (first-limits s g h) in
+    let t : inLimits (r .polynomials) (r .asked) (r .round) (r .n) (r .rows) (r .answered) ≡ true = cc (first-limits s g h) in
     rw (t, eq-eqb (r .round) 0 e₃) refl
 
 -- the question that the answer to a running record counts
 pub sound-asked : (r : Run) → isSound r ≡ true → r .asked < mostAsked
 sound-asked r e = go (ℕ-discrete (r .round) 0) (sound-limits r e)
   where
-    go : Dec (r .round ≡ 0) → Limits (r .polynomials) (r .asked) (r .round) (r .points) (r .rows) (r .answered) → r .asked < mostAsked
+    go : Dec (r .round ≡ 0) → Limits (r .polynomials) (r .asked) (r .round) (r .n) (r .rows) (r .answered) → r .asked < mostAsked
     go (yes z) l = omega (arith, l .at-first z)
     go (no z) l = omega (arith, l .at-later (omega arith))
 
@@ -200,7 +200,7 @@ late-gives r z e = record { by-rules = sym (go (isDone r) refl); as-it-was = λ 
 pub record Later (r : Run) : Type 0 where
   pub most : r .polynomials ≤ 8
   pub rounds : r .round ≤ r .polynomials
-  pub few-points : r .points ≤ 64
+  pub few-points : r .n ≤ 64
   pub few-rows : r .rows ≤ 64
   pub place : r .answered < 2 * r .rows
   pub few-asked : r .asked ≤ 128 * r .round + r .answered
@@ -220,15 +220,15 @@ later-from r e h =
     }
 
 -- the test, as the code makes it
-pub test-limits : (r : Run) → inLimits (r .polynomials) (r .asked) (r .round) (r .points) (r .rows) (r .answered) ≡ false → false ≡ isSound r
+pub test-limits : (r : Run) → inLimits (r .polynomials) (r .asked) (r .round) (r .n) (r .rows) (r .answered) ≡ false → false ≡ isSound r
 unfolding isSound
 test-limits r e = rw e refl
 
-pub test-first : (r : Run) → inLimits (r .polynomials) (r .asked) (r .round) (r .points) (r .rows) (r .answered) ≡ true → r .round ≡ 0 → true ≡ isSound r
+pub test-first : (r : Run) → inLimits (r .polynomials) (r .asked) (r .round) (r .n) (r .rows) (r .answered) ≡ true → r .round ≡ 0 → true ≡ isSound r
 unfolding isSound
 test-first r e z = rw (e, eq-eqb (r .round) 0 z) refl
 
-pub test-later : (r : Run) → inLimits (r .polynomials) (r .asked) (r .round) (r .points) (r .rows) (r .answered) ≡ true → (r .round ≡ 0 → ⊥)
+pub test-later : (r : Run) → inLimits (r .polynomials) (r .asked) (r .round) (r .n) (r .rows) (r .answered) ≡ true → (r .round ≡ 0 → ⊥)
     → isBelow (3 ^ (r .round - 1)) (take (r .rows) (r .products)) ≡ isSound r
 unfolding isSound
 test-later r e z = rw (e, ne-eqb (r .round) 0 z) refl

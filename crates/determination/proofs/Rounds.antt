@@ -37,7 +37,7 @@ counted r round points h products answered answers =
       asked = r .asked + 1;
       phase = r .phase;
       round = round;
-      points = points;
+      n = points;
       rows = h .number;
       patterns = h .patterns;
       counts = h .counts;
@@ -59,7 +59,7 @@ stored-length l k z h = omega (arith, length-append (take k l) (z ∷ []), lengt
 
 abbrev wentOn : Run → ℤ → Run
 wentOn r a =
-    counted r (r .round) (r .points) (record { number = r .rows; patterns = r .patterns; counts = r .counts }) (r .products) (r .answered + 1)
+    counted r (r .round) (r .n) (record { number = r .rows; patterns = r .patterns; counts = r .counts }) (r .products) (r .answered + 1)
     (set (r .answers) (r .answered) a)
 
 module _ (r : Run) (a : ℤ) (n : Lengths r) (e : isRunning r ≡ true) (later : 0 < r .round) (more : r .answered + 1 < 2 * r .rows) where
@@ -67,7 +67,7 @@ module _ (r : Run) (a : ℤ) (n : Lengths r) (e : isRunning r ≡ true) (later :
   went-sound =
       let k = later-from r e later in
       sound-to (wentOn r a) later
-      (limits-to (r .polynomials) (r .asked + 1) (r .round) (r .points) (r .rows) (r .answered + 1) later (k .rounds) (k .most) (k .few-points) (k .few-rows) more (omega arith))
+      (limits-to (r .polynomials) (r .asked + 1) (r .round) (r .n) (r .rows) (r .answered + 1) later (k .rounds) (k .most) (k .few-points) (k .few-rows) more (omega arith))
       (sound-below r (running-sound r e) later)
 
   pub went-on : (p : ℕ) → p ≡ productAt (r .round - 1) (take (r .rows) (r .products)) (r .answered + 1)

@@ -66,7 +66,7 @@ mostAsked = 2 * mostPoints * suc mostPolynomials
 
 unfoldable pub isSound : Run → Bool
 isSound r =
-    inLimits (r .polynomials) (r .asked) (r .round) (r .points) (r .rows) (r .answered)
+    inLimits (r .polynomials) (r .asked) (r .round) (r .n) (r .rows) (r .answered)
     && cond (eqb (r .round) 0) true (isBelow (3 ^ (r .round - 1)) (take (r .rows) (r .products)))
 
 -- the test of a record whose run goes on, and of one that is done
@@ -102,7 +102,7 @@ stateIn f r =
       total = r .asked;
       phase = f;
       round = r .round;
-      n = r .points;
+      n = r .n;
       rows = unlessClosed f (rowsWith (take (r .rows) (r .patterns)) (take (r .rows) (r .counts)));
       products = whileRunning f (take (r .rows) (r .products));
       answers = whileRunning f (take (r .answered) (r .answers));

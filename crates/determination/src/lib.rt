@@ -82,7 +82,7 @@ pub struct Run {
     pub asked: usize,
     pub phase: u8,
     pub round: usize,
-    pub points: u64,
+    pub n: u64,
     pub rows: usize,
     pub patterns: [u16; MOST_ROWS],
     pub counts: [u16; MOST_ROWS],
@@ -99,14 +99,14 @@ pub struct Answered {
 
 // A record before the first answer.
 fn fresh(s: usize, phase: u8) -> Run
-    ensures { λ r. ⌜ (r .polynomials ≡ s) × (r .phase ≡ phase) × (r .asked ≡ 0) × (r .round ≡ 0) × (r .points ≡ 0) × (r .rows ≡ 0) × (r .answered ≡ 0) ⌝ }
+    ensures { λ r. ⌜ (r .polynomials ≡ s) × (r .phase ≡ phase) × (r .asked ≡ 0) × (r .round ≡ 0) × (r .n ≡ 0) × (r .rows ≡ 0) × (r .answered ≡ 0) ⌝ }
 {
     Run {
         polynomials: s,
         asked: 0,
         phase: phase,
         round: 0,
-        points: 0,
+        n: 0,
         rows: 0,
         patterns: [0u16; MOST_ROWS],
         counts: [0u16; MOST_ROWS],
@@ -149,7 +149,7 @@ fn sound(run: Run) -> bool
         run.polynomials,
         run.asked,
         round,
-        run.points,
+        run.n,
         rows,
         run.answered,
     ) {
@@ -187,16 +187,16 @@ fn close(mut run: Run, k: u16) -> Answered
 }
 
 // Round i has ended with these rows, and the run is done.
-fn finish(mut run: Run, i: usize, points: u64, found: Rows) -> Answered
+fn finish(mut run: Run, i: usize, n: u64, found: Rows) -> Answered
     requires { ⌜ (run .asked < mostAsked) × (found .number ≤ mostPoints) ⌝ }
-    ensures { λ r. ⌜ (stateOf (r .run), stepOf (r .step)) ≡ ended roundRows (runningState run) i points (heldRows found) true ⌝ }
+    ensures { λ r. ⌜ (stateOf (r .run), stepOf (r .step)) ≡ ended roundRows (runningState run) i n (heldRows found) true ⌝ }
 {
     let patterns = found.patterns;
     let counts = found.counts;
     run.asked = run.asked + 1;
     run.phase = DONE;
     run.round = i;
-    run.points = points;
+    run.n = n;
     run.rows = found.number;
     run.patterns = patterns;
     run.counts = counts;
@@ -208,21 +208,21 @@ fn finish(mut run: Run, i: usize, points: u64, found: Rows) -> Answered
 }
 
 // Round i has ended with these rows, and the next round begins: its first product is asked.
-fn begin(mut run: Run, i: usize, points: u64, found: Rows) -> Answered
-    requires { ⌜ (run .phase ≡ goes-on) × (i < run .polynomials) × (run .polynomials ≤ mostPolynomials) × (points ≤ mostPoints) × (run .asked < 2 * mostPoints * suc i) ⌝ }
+fn begin(mut run: Run, i: usize, n: u64, found: Rows) -> Answered
+    requires { ⌜ (run .phase ≡ goes-on) × (i < run .polynomials) × (run .polynomials ≤ mostPolynomials) × (n ≤ mostPoints) × (run .asked < 2 * mostPoints * suc i) ⌝ }
     requires { ⌜ (0 < found .number) × (found .number ≤ mostPoints) ⌝ }
     requires { ⌜ Rising (take (found .number) (found .patterns)) × Below (3 ^ i) (take (found .number) (found .patterns)) ⌝ }
-    ensures { λ r. ⌜ (stateOf (r .run), stepOf (r .step)) ≡ ended roundRows (runningState run) i points (heldRows found) false ⌝ }
+    ensures { λ r. ⌜ (stateOf (r .run), stepOf (r .step)) ≡ ended roundRows (runningState run) i n (heldRows found) false ⌝ }
 {
-    let n = found.number;
+    let rows = found.number;
     let patterns = found.patterns;
     let counts = found.counts;
-    let products = products_of(i, &patterns, n);
-    let product = product_at(i, &products, n, 0);
+    let products = products_of(i, &patterns, rows);
+    let product = product_at(i, &products, rows, 0);
     run.asked = run.asked + 1;
     run.round = i + 1;
-    run.points = points;
-    run.rows = n;
+    run.n = n;
+    run.rows = rows;
     run.patterns = patterns;
     run.counts = counts;
     run.products = products;
@@ -254,7 +254,7 @@ fn first(run: Run, a: i64) -> Answered
 // The answer stored, and the next product of the round.
 fn go_on(mut run: Run, a: i64) -> Answered
     requires { ⌜ (isRunning run ≡ true) × (0 < run .round) × (run .answered + 1 < 2 * run .rows) ⌝ }
-    requires { ⌜ natAbs a ≤ run .points ⌝ }
+    requires { ⌜ natAbs a ≤ run .n ⌝ }
     ensures { λ r. ⌜ (stateOf (r .run), stepOf (r .step)) ≡ goOn roundRows (runningState run) (run .round - 1) (withAnswer run a) true ⌝ }
 {
     let k = run.answered;
@@ -278,9 +278,9 @@ fn next_round(run: Run, found: Rows) -> Answered
 {
     let round = run.round;
     if round == run.polynomials {
-        return finish(run, round, run.points, found);
+        return finish(run, round, run.n, found);
     }
-    begin(run, round, run.points, found)
+    begin(run, round, run.n, found)
 }
 
 // The last answer of a round.
@@ -320,10 +320,10 @@ fn later(run: Run, a: i64) -> Answered
     requires { ⌜ (isRunning run ≡ true) × (0 < run .round) ⌝ }
     ensures { λ r. ⌜ (stateOf (r .run), stepOf (r .step)) ≡ laterOf roundRows (runningState run) (run .round - 1) a ⌝ }
 {
-    let points = run.points;
+    let n = run.n;
     let k = run.answered;
     let rows = run.rows;
-    if points < magnitude(a) {
+    if n < magnitude(a) {
         return close(run, BAD_LATER);
     }
     if k + 1 < 2 * rows {

@@ -56,11 +56,11 @@ pub fn in_limits(
     s: usize,
     asked: usize,
     round: usize,
-    points: u64,
+    n: u64,
     rows: usize,
     answered: usize,
 ) -> bool
-    ensures { λ r. ⌜ r ≡ inLimits s asked round points rows answered ⌝ }
+    ensures { λ r. ⌜ r ≡ inLimits s asked round n rows answered ⌝ }
 {
     if s < 1 {
         return false;
@@ -71,7 +71,7 @@ pub fn in_limits(
     if s < round {
         return false;
     }
-    if MOST_POINTS < points {
+    if MOST_POINTS < n {
         return false;
     }
     if MOST_ROWS < rows {

@@ -27,7 +27,7 @@ bound : (c : tie.After-products-of) → let a = c .before .before .before .befor
 bound c =
     let st = c .before .before .before .before in
     let a = st .args in
-    list-below (a .run) (a .i) (a .points) (a .found) (c .products-of .result) (patterns-length (a .found) (st .good .1 .1 .1 .0)) (counts-length (a .found) (st .good .1 .1 .1 .0))
+    list-below (a .run) (a .i) (a .n) (a .found) (c .products-of .result) (patterns-length (a .found) (st .good .1 .1 .1 .0)) (counts-length (a .found) (st .good .1 .1 .1 .0))
     (st .pre .0 .0) (st .pre .0 .1) (st .pre .0 .2) (st .pre .0 .3) (st .pre .0 .4) (st .pre .1 .0 .0) (st .pre .1 .0 .1) (c .products-of .ensures)
 
 slice-aggregate-products-of : tie.Need-slice-aggregate-products-of
@@ -61,7 +61,7 @@ returns c =
     let st = c .before .before .before .before .before .before .before in
     let a = st .args in
     let p = c .before .before .before in
-    begun (a .run) (a .i) (a .points) (a .found) (p .products-of .result) (patterns-length (a .found) (st .good .1 .1 .1 .0)) (counts-length (a .found) (st .good .1 .1 .1 .0))
+    begun (a .run) (a .i) (a .n) (a .found) (p .products-of .result) (patterns-length (a .found) (st .good .1 .1 .1 .0)) (counts-length (a .found) (st .good .1 .1 .1 .0))
     (st .pre .0 .0) (st .pre .0 .1) (st .pre .0 .2) (st .pre .0 .3) (st .pre .0 .4) (st .pre .1 .0 .0) (st .pre .1 .0 .1) (p .products-of .ensures) (c .before .product-at .result .0) (c .before .product-at .ensures)
 
 pub begin-spec : {M : Type 1} → statement M

@@ -12,11 +12,11 @@ use Rattle.determination.proofs.sound.Tie as tie
 
 -- the numbers passed their test
 passed : (c : tie.Else1) → let r = c .before .before .args .t1 in
-    inLimits (r .polynomials) (r .asked) (r .round) (r .points) (r .rows) (r .answered) ≡ true
+    inLimits (r .polynomials) (r .asked) (r .round) (r .n) (r .rows) (r .answered) ≡ true
 passed c = sym (c .before .in-limits .ensures) ∙ not-false (c .before .in-limits .result) (c .if1 .left)
 
 limits : (c : tie.Else1) → let r = c .before .before .args .t1 in
-    Limits (r .polynomials) (r .asked) (r .round) (r .points) (r .rows) (r .answered)
+    Limits (r .polynomials) (r .asked) (r .round) (r .n) (r .rows) (r .answered)
 limits c = limits-from _ _ _ _ _ _ (passed c)
 
 in-limits-requires : tie.Need-in-limits-requires

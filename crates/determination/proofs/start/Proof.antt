@@ -13,7 +13,7 @@ use Rattle.determination.proofs.Records.{first-sound, running-is, runni
 use Rattle.determination.proofs.start.Statement.{statement}
 use Rattle.determination.proofs.start.Tie as tie
 
-fresh-running : (r : Run) (s : ℕ) → r .polynomials ≡ s → r .asked ≡ 0 → r .round ≡ 0 → r .points ≡ 0 → r .rows ≡ 0 → r .answered ≡ 0
+fresh-running : (r : Run) (s : ℕ) → r .polynomials ≡ s → r .asked ≡ 0 → r .round ≡ 0 → r .n ≡ 0 → r .rows ≡ 0 → r .answered ≡ 0
     → _≡_ {A = State × Step} (runningState r, ask 0) (startOf s, ask 0)
 unfolding rowsWith
 fresh-running r s e₁ e₂ e₃ e₄ e₅ e₆ =

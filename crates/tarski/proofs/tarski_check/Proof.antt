@@ -15,4 +15,4 @@ returns-2 c = ap cardOf (sym (c .before .k .given .1) ∙ c .before .before .bef
 
 pub tarski-check-spec : {M : Type 1} → statement M
 tarski-check-spec =
-    tie.close (tie.spec (λ c κs. search needs) (λ c. search needs) (λ c. search needs) (λ c. search needs) returns returns-2)
+    tie.close (tie.spec (λ c κs. search needs) (λ c. search needs) (λ c. search needs) returns returns-2)
