@@ -6,6 +6,8 @@
 --   mostAsked        == a number above the questions of any such record
 --   isRunning run    == the test of a record whose run goes on
 --   isDone run       == the test of a record that is done: at most 64 rows
+--   unlessClosed f l == the list l, which a closed record does not hold
+--   whileRunning f l == the list l, which a record holds only while the run goes on
 --   stateIn f run    == what the record stands for in the phase f: closed, it holds no rows, and only while the run goes on products and answers
 --   runningState run == the same of a run that goes on
 --   runPhase run     == the phase that the record stands for. A record may hold anything: one that no start and no answer could have left, so
@@ -27,7 +29,8 @@ use Rattle.signs.specs.Lists.{isBelow}
 use Rattle.rounds.specs.Rows.{Row, rowsWith}
 use Rattle.rounds.specs.RoundEnd.{roundRows}
 use Rattle.run_parts.specs.Parts.{inLimits}
-use Rattle.runs.specs.Run.{State, Phase, running, finished, closed, Step, ask, done, refused, Fetch, row, no-row, Copied, copied, not-copied, newIn, startOf, answerOf}
+use Rattle.runs.specs.Run.{Step, ask, done, refused, Fetch, row, no-row, Copied, copied, not-copied}
+use Rattle.runs.specs.Run.{State, Phase, running, finished, closed, newIn, startOf, answerOf}
 use Rattle.determination.specs.declared.Run.{Run}
 use Rattle.determination.specs.declared.Answered.{Answered}
 use Rattle.determination.specs.declared.Fetched.{Fetched}
