@@ -1,5 +1,5 @@
--- The moments of patterns, as the code has them: definitions of inner functions. What they mean for the numbers of a list of patterns is proved in
--- the crate `descent`.
+-- The moments of patterns, as the code has them: definitions of inner functions. What they mean for the numbers of a list of patterns is
+-- proved in the crate `descent`.
 --
 -- The three moments of a pattern q of P1 .. Pi are sums, over the signs of P(i+1), of the numbers of q with that sign: d of all three, e of + less −,
 -- g of + and −. A mark says with which signs q stands: 1 for 0, 2 for +, 4 for −, added up.
@@ -85,4 +85,5 @@ NumberAt w L at d e g k z =
 abbrev pub Combined : ℕ → List ℕ → List ℕ → List ℤ → List ℤ → List ℤ → List ℤ → Bool → Type 0
 Combined w L at d e g out true = ((k : ℕ) → k < length L → NumberAt w L at d e g k (getD out k (pos 0))) × (sumAbs out ≤ mostPoints)
 Combined w L at d e g out false =
-    (ws : List ℤ) → length ws ≡ length L → ((k : ℕ) → k < length L → NumberAt w L at d e g k (getD ws k (pos 0))) → sumAbs ws ≤ mostPoints → ⊥
+    (ws : List ℤ) → length ws ≡ length L → ((k : ℕ) → k < length L → NumberAt w L at d e g k (getD ws k (pos 0)))
+    → sumAbs ws ≤ mostPoints → ⊥

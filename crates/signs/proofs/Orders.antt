@@ -67,8 +67,8 @@ rising-test (x ∷ y ∷ l) r = both (ltb x y) (isRising (y ∷ l)) (lt-ltb x y 
 -- ---- a loop over the list: each below a bound
 
 -- a, the test of the numbers passed, with the one at k: what is left of the test of the list
-pub below-next : (b k : ℕ) (l : List ℕ) (a a′ : Bool) → k < length l → a′ ≡ (ltb (getD l k 0) b && a) → isBelow b l ≡ (a && isBelow b (drop k l))
-    → isBelow b l ≡ (a′ && isBelow b (drop (k + 1) l))
+pub below-next : (b k : ℕ) (l : List ℕ) (a a′ : Bool) → k < length l → a′ ≡ (ltb (getD l k 0) b && a)
+    → isBelow b l ≡ (a && isBelow b (drop k l)) → isBelow b l ≡ (a′ && isBelow b (drop (k + 1) l))
 unfolding isBelow
 below-next b k l a a′ h n e =
     e ∙ rw (add-one k, drop-cons l k 0 h, n) (turned a (ltb (getD l k 0) b) (isBelow b (drop (suc k) l)))
@@ -98,13 +98,15 @@ rises-two : (x y : ℕ) (l : List ℕ) → isRising (x ∷ y ∷ l) ≡ ltb x y 
 unfolding isRising
 rises-two x y l = refl
 
-rises-at : (k : ℕ) (l : List ℕ) → 1 ≤ k → k < length l → isRising (drop (k - 1) l) ≡ ltb (getD l (k - 1) 0) (getD l k 0) && isRising (drop k l)
+rises-at : (k : ℕ) (l : List ℕ) → 1 ≤ k → k < length l
+    → isRising (drop (k - 1) l) ≡ ltb (getD l (k - 1) 0) (getD l k 0) && isRising (drop k l)
 rises-at k l h q =
     ap isRising (two-left k l h q ∙ ap (λ (t : List ℕ). getD l (k - 1) 0 ∷ t) (drop-cons l k 0 q))
     ∙ rises-two (getD l (k - 1) 0) (getD l k 0) (drop (suc k) l)
     ∙ ap (λ (t : List ℕ). ltb (getD l (k - 1) 0) (getD l k 0) && isRising t) (sym (drop-cons l k 0 q))
 
-pub rising-next : (k : ℕ) (l : List ℕ) → 1 ≤ k → k < length l → getD l (k - 1) 0 < getD l k 0 → isRising l ≡ isRising (drop (k - 1) l) → isRising l ≡ isRising (drop (k + 1 - 1) l)
+pub rising-next : (k : ℕ) (l : List ℕ) → 1 ≤ k → k < length l → getD l (k - 1) 0 < getD l k 0
+    → isRising l ≡ isRising (drop (k - 1) l) → isRising l ≡ isRising (drop (k + 1 - 1) l)
 rising-next k l h q s e =
     e ∙ rises-at k l h q ∙ and-true (ltb (getD l (k - 1) 0) (getD l k 0)) (isRising (drop k l)) (lt-ltb (getD l (k - 1) 0) (getD l k 0) s)
     ∙ ap (λ (n : ℕ). isRising (drop n l)) (same k)
@@ -112,9 +114,11 @@ rising-next k l h q s e =
     same : (k : ℕ) → k ≡ k + 1 - 1
     same k = omega arith
 
-pub rising-not : (k : ℕ) (l : List ℕ) → 1 ≤ k → k < length l → getD l k 0 ≤ getD l (k - 1) 0 → isRising l ≡ isRising (drop (k - 1) l) → false ≡ isRising l
+pub rising-not : (k : ℕ) (l : List ℕ) → 1 ≤ k → k < length l → getD l k 0 ≤ getD l (k - 1) 0
+    → isRising l ≡ isRising (drop (k - 1) l) → false ≡ isRising l
 rising-not k l h q s e =
-    sym (e ∙ rises-at k l h q ∙ and-false (ltb (getD l (k - 1) 0) (getD l k 0)) (isRising (drop k l)) (le-ltb (getD l (k - 1) 0) (getD l k 0) s))
+    sym (e ∙ rises-at k l h q
+    ∙ and-false (ltb (getD l (k - 1) 0) (getD l k 0)) (isRising (drop k l)) (le-ltb (getD l (k - 1) 0) (getD l k 0) s))
 
 rises-short : (l : List ℕ) → length l ≤ 1 → isRising l ≡ true
 unfolding isRising

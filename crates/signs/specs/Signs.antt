@@ -4,7 +4,8 @@
 -- 0 for 0, 1 for +, 2 for −; of a product it is the power of P(j+1). The top digit is that of the last polynomial.
 --
 --   signOf d         == the sign that the digit d of a pattern stands for, as an integer
---   sign s α σ       == the sign of the product α on the pattern σ: the product of sign^power over the s polynomials, power 0 of any sign being 1
+--   sign s α σ       == the sign of the product α on the pattern σ: the product of sign^power over the s polynomials,
+--                       power 0 of any sign being 1
 --   query s E α      == the query of the product α: the sum of its sign over the points' patterns E, repeats counted
 --   weighted s L c α == the same where the pattern L[k] counts c[k] times, a whole number
 --   sign-digit z     == the digit of z's sign in a pattern number: 0 for 0, 1 for +, 2 for −

@@ -34,6 +34,7 @@ pub list-unlike : (s : ℕ) (L : List ℕ) (xs : List ℤ) → length L ≤ most
 unfolding isList
 list-unlike s L xs h k = rw (le-leb (length L) mostPoints h, ne-eqb (length xs) (length L) k) refl
 
-pub list-rest : (s : ℕ) (L : List ℕ) (xs : List ℤ) (b : Bool) → length L ≤ mostPoints → length xs ≡ length L → isRising L ≡ b → isList s L xs ≡ b && isBelow (3 ^ s) L
+pub list-rest : (s : ℕ) (L : List ℕ) (xs : List ℤ) (b : Bool) → length L ≤ mostPoints → length xs ≡ length L → isRising L ≡ b
+    → isList s L xs ≡ b && isBelow (3 ^ s) L
 unfolding isList
 list-rest s L xs b h k e = rw (le-leb (length L) mostPoints h, eq-eqb (length xs) (length L) k, e) refl

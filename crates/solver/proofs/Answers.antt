@@ -28,12 +28,12 @@ pub refused-list : (s : ℕ) (L : List ℕ) (xs out : List ℤ) → (s ≡ 0 →
 unfolding solveOf
 refused-list s L xs out h k e = rw (lt-ltb 0 s (omega arith), le-leb s mostPolynomials k, e) refl
 
-pub refused-short : (s : ℕ) (L : List ℕ) (xs out : List ℤ) → (s ≡ 0 → ⊥) → s ≤ mostPolynomials → isList s L xs ≡ true → length out < length L
-    → solveOf s L xs out ≡ (Refused tooShort, out)
+pub refused-short : (s : ℕ) (L : List ℕ) (xs out : List ℤ) → (s ≡ 0 → ⊥) → s ≤ mostPolynomials → isList s L xs ≡ true
+    → length out < length L → solveOf s L xs out ≡ (Refused tooShort, out)
 unfolding solveOf
 refused-short s L xs out h k e q = rw (lt-ltb 0 s (omega arith), le-leb s mostPolynomials k, e, lt-leb (length L) (length out) q) refl
 
-pub well-posed : (s : ℕ) (L : List ℕ) (xs out : List ℤ) → (s ≡ 0 → ⊥) → s ≤ mostPolynomials → isList s L xs ≡ true → length L ≤ length out
-    → solveOf s L xs out ≡ answered out (solverOf s L xs)
+pub well-posed : (s : ℕ) (L : List ℕ) (xs out : List ℤ) → (s ≡ 0 → ⊥) → s ≤ mostPolynomials → isList s L xs ≡ true
+    → length L ≤ length out → solveOf s L xs out ≡ answered out (solverOf s L xs)
 unfolding solveOf
 well-posed s L xs out h k e q = rw (lt-ltb 0 s (omega arith), le-leb s mostPolynomials k, e, le-leb (length L) (length out) q) refl

@@ -49,9 +49,11 @@ loop-again c =
     let at = c .before .before .before .before in
     let st = at .before .before in
     let a = st .args in
-    writing-next (pos 0) (λ h z. z ≡ secondOf (getD (a .mark .now) h 0) (getD (a .d .now) h (pos 0))) (length (a .mark .now)) (a .e .now) (at .loop .e) (at .loop .j) _
+    writing-next (pos 0) (λ h z. z ≡ secondOf (getD (a .mark .now) h 0) (getD (a .d .now) h (pos 0)))
+    (length (a .mark .now)) (a .e .now) (at .loop .e) (at .loop .j) _
     (at .loop .inv) (omega arith) (omega arith)
-    (back (c .second-value .result) (search needs) ∙ c .second-value .ensures ∙ rw (back (getD (a .d .now) (at .loop .j) (pos 0)) (search needs)) refl)
+    (back (c .second-value .result) (search needs) ∙ c .second-value .ensures
+    ∙ rw (back (getD (a .d .now) (at .loop .j) (pos 0)) (search needs)) refl)
 
 same-length : tie.Need-same-length Inv-loop μ-loop
 same-length c = c .before .loop .inv .1

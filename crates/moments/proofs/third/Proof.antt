@@ -12,7 +12,8 @@ use Rattle.moments.proofs.third.Statement.{statement}
 use Rattle.moments.proofs.third.Tie as tie
 
 abbrev Inv-loop : tie.InvT-loop
-Inv-loop mark d e g₀ j₀ g j = Writing (pos 0) (λ h z. z ≡ thirdOf (getD mark h 0) (getD d h (pos 0)) (getD e h (pos 0))) (length mark) g₀ g j
+Inv-loop mark d e g₀ j₀ g j =
+    Writing (pos 0) (λ h z. z ≡ thirdOf (getD mark h 0) (getD d h (pos 0)) (getD e h (pos 0))) (length mark) g₀ g j
 
 abbrev μ-loop : tie.MeasureT-loop
 μ-loop mark d e g₀ j₀ g j = length mark - j
@@ -55,7 +56,8 @@ loop-again c =
     let at = c .before .before .before .before .before in
     let st = at .before .before in
     let a = st .args in
-    writing-next (pos 0) (λ h z. z ≡ thirdOf (getD (a .mark .now) h 0) (getD (a .d .now) h (pos 0)) (getD (a .e .now) h (pos 0))) (length (a .mark .now)) (a .g .now) (at .loop .g) (at .loop .j) _
+    writing-next (pos 0) (λ h z. z ≡ thirdOf (getD (a .mark .now) h 0) (getD (a .d .now) h (pos 0)) (getD (a .e .now) h (pos 0)))
+    (length (a .mark .now)) (a .g .now) (at .loop .g) (at .loop .j) _
     (at .loop .inv) (omega arith) (omega arith)
     (back (c .third-value .result) (search needs) ∙ c .third-value .ensures
     ∙ rw (back (getD (a .d .now) (at .loop .j) (pos 0)) (search needs), back (getD (a .e .now) (at .loop .j) (pos 0)) (search needs)) refl)

@@ -79,7 +79,13 @@ loop-again c =
     (length (a .a .now)) (a .r .now) (at .loop .r) (at .loop .k) _ (at .loop .inv)
     (c .before .before .before .before .before .loop-test .taken) (omega (arith, st .pre .0 .3))
     (back (c .minus .result) (search needs) ∙ c .minus .ensures
-    ∙ rw (back (getD (a .x .now) (at .loop .k) (pos 0)) (search needs), back (q .result) (search needs), q .ensures .0, d .ensures .0, d .ensures .1) refl)
+    ∙ rw (
+      back (getD (a .x .now) (at .loop .k) (pos 0)) (search needs),
+      back (q .result) (search needs),
+      q .ensures .0,
+      d .ensures .0,
+      d .ensures .1,
+    ) refl)
 
 same-length : tie.Need-same-length Inv-loop μ-loop
 same-length c = c .before .loop .inv .1
