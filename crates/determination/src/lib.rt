@@ -145,14 +145,7 @@ fn sound(run: Run) -> bool
 {
     let round = run.round;
     let rows = run.rows;
-    if !in_limits(
-        run.polynomials,
-        run.asked,
-        round,
-        run.n,
-        rows,
-        run.answered,
-    ) {
+    if !in_limits(run.polynomials, run.asked, round, run.n, rows, run.answered) {
         return false;
     }
     if round == 0 {

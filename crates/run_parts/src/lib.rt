@@ -52,14 +52,7 @@ pub fn front_below(list: &[u16], n: usize, bound: u16) -> bool
 }
 
 // Whether a running record's numbers are such as the calls leave.
-pub fn in_limits(
-    s: usize,
-    asked: usize,
-    round: usize,
-    n: u64,
-    rows: usize,
-    answered: usize,
-) -> bool
+pub fn in_limits(s: usize, asked: usize, round: usize, n: u64, rows: usize, answered: usize) -> bool
     ensures { λ r. ⌜ r ≡ inLimits s asked round n rows answered ⌝ }
 {
     if s < 1 {
