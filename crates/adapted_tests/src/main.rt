@@ -14,9 +14,6 @@ ghost use Rattle.refusals.specs.Limits.{mostPolynomials, mostPoints};
 ghost use Rattle.signs.specs.Lists.{Below, Rising};
 ghost use Rattle.adapted_tests.specs.Counts.{Counted, Further};
 
-// What the file adds to each query.
-const QUERY_ZERO: i64 = MOST_POINTS as i64;
-
 // Whether a list is rising and below a bound, from its end down.
 fn is_rising(list: &[u16], bound: u16) -> bool
     ensures { λ r. ⌜ (r ≡ true → Rising (now (list .entry)) × Below bound (now (list .entry))) ⌝ }
@@ -78,17 +75,14 @@ fn balance(s: usize, patterns: &[u16], a: Product) -> usize
     sum
 }
 
-// Whether the query of a product on these patterns, and the sum of its signs, are the number stored, which has QUERY_ZERO added.
+// Whether the sum of the signs of a product on these patterns is the number stored, which has MOST_POINTS added.
 fn query_agrees(s: usize, patterns: &[u16], a: u16, stored: u8) -> bool
     requires { ⌜ (s ≤ mostPolynomials) × Below (3 ^ s) (now patterns) × (length (now patterns) ≤ mostPoints) ⌝ }
 {
     if signs::power(s) <= a {
         return false;
     }
-    if balance(s, patterns, Product(a)) != test_input::wide(stored) {
-        return false;
-    }
-    signs::query(s, patterns, Product(a)) == stored as i64 - QUERY_ZERO
+    balance(s, patterns, Product(a)) == test_input::wide(stored)
 }
 
 // 0 where the answer is yes, else 1.

@@ -10,7 +10,6 @@ pub mod Size
 pub mod Queries
 pub mod Extend
 pub mod Digitwise
-pub mod BitQuery
 pub mod Edges
 pub mod Weights
 pub mod UniqueWhole
