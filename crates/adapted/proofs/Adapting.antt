@@ -1,5 +1,5 @@
--- What the code of `adapted` works out is the adapted list: the merge leaves `lows`, and the three parts are written one after the other.
--- Assumes nothing.
+-- What the code of `adapted` works out is the adapted list: the merge leaves `restrictions`, and the three parts are written one after the
+-- other.
 use mathlib.Core.Path.{_≡_, refl, sym, ap, ap₂, _∙_, subst}
 use mathlib.Core.Bool.{Bool, true, false, cond}
 use mathlib.Core.Logic.{_≢_, _⊎_, inl, inr}
@@ -14,12 +14,12 @@ use lib.Seq.{sets, length-take-le, getD-take}
 use borrow.Author.Tests.{le-leb}
 use Rattle.integers.proofs.Tests.{T-of}
 use Rattle.signs.specs.Lists.{times, Below, Rising, shift}
-use Rattle.signs.specs.Adapted.{signsOf, lows, adapted}
+use Rattle.signs.specs.Adapted.{signsOf, restrictions, adapted}
 use Rattle.adapted.specs.Split.{marksOf, countOf, chosen, partsOf, Split}
-use Rattle.signs.proofs.Lists.{times-nil, times-same, times-other, times-one, times-cons, lows-in, lows-holds}
+use Rattle.signs.proofs.Lists.{times-nil, times-same, times-other, times-one, times-cons, restrictions-in, restrictions-holds}
 use Rattle.signs.proofs.Digits.{low as low-digits, digits}
 use Rattle.signs.proofs.Size.{length-shift, as-many}
-use Rattle.signs.proofs.Extend.{rising-ext, lows-rising}
+use Rattle.signs.proofs.Extend.{rising-ext, restrictions-rising}
 use Rattle.adapted.proofs.Stores.{sets-append, take-sets}
 use Rattle.signs.proofs.Positions.{stands-at, place-of}
 use Rattle.adapted.proofs.Merge.{chosen-length}
@@ -42,15 +42,17 @@ empty : (l : List ℕ) → ((q : ℕ) → 0 < times q l → ⊥) → l ≡ []
 empty [] h = refl
 empty (x ∷ l) h = absurd (h x (omega (arith, times-same x l)))
 
-lows-nil : (k i : ℕ) → 1 ≤ k → lows k i [] ≡ []
-lows-nil k i h =
-    empty (lows k i []) (λ q m. let (b, e) = lows-holds k i [] q m in unfold signsOf in omega (arith, times-nil q, times-nil (q + 3 ^ i), times-nil (q + 2 * 3 ^ i)))
+restrictions-nil : (k i : ℕ) → 1 ≤ k → restrictions k i [] ≡ []
+restrictions-nil k i h =
+    empty (restrictions k i [])
+    (λ q m. let (b, e) = restrictions-holds k i [] q m in unfold signsOf in
+    omega (arith, times-nil q, times-nil (q + 3 ^ i), times-nil (q + 2 * 3 ^ i)))
 
 pub adapted-nil : (i : ℕ) → adapted i [] ≡ []
 unfolding adapted shift
 adapted-nil zero = refl
 adapted-nil (suc i) =
-    rw (lows-nil 1 i (omega arith), lows-nil 2 i (omega arith), lows-nil 3 i (omega arith), adapted-nil i) refl
+    rw (restrictions-nil 1 i (omega arith), restrictions-nil 2 i (omega arith), restrictions-nil 3 i (omega arith), adapted-nil i) refl
 
 -- q is x and stands once in the list of x alone, or is another and does not
 abbrev Single : ℕ → ℕ → Type 0
@@ -93,12 +95,16 @@ some-sign i L q h = go (decLt 0 (times q L)) (decLt 0 (times (q + 3 ^ i) L))
 pub sign-some : (i : ℕ) (L : List ℕ) (q d : ℕ) → d < 3 → 0 < times (q + d * 3 ^ i) L → 1 ≤ signsOf i L q
 unfolding signsOf
 sign-some i L q zero h m = let e : q + 0 * 3 ^ i ≡ q = omega arith in let m′ : 0 < times q L = (rw e at m) in omega arith
-sign-some i L q (suc zero) h m = let e : q + 1 * 3 ^ i ≡ q + 3 ^ i = omega arith in let m′ : 0 < times (q + 3 ^ i) L = (rw e at m) in omega arith
+sign-some i L q (suc zero) h m =
+    let e : q + 1 * 3 ^ i ≡ q + 3 ^ i = omega arith in
+    let m′ : 0 < times (q + 3 ^ i) L = (rw e at m) in
+    omega arith
 sign-some i L q (suc (suc zero)) h m = omega arith
 sign-some i L q (suc (suc (suc d))) h m = absurd (omega arith)
 
-lows-single : (i r d : ℕ) → r < 3 ^ i → d < 3 → lows 1 i ((r + d * 3 ^ i) ∷ []) ≡ r ∷ []
-lows-single i r d h k = rising-ext (lows 1 i (x ∷ [])) (r ∷ []) (lows-rising 1 i (x ∷ [])) rises (λ q. (forth q, back q))
+restrictions-single : (i r d : ℕ) → r < 3 ^ i → d < 3 → restrictions 1 i ((r + d * 3 ^ i) ∷ []) ≡ r ∷ []
+restrictions-single i r d h k =
+    rising-ext (restrictions 1 i (x ∷ [])) (r ∷ []) (restrictions-rising 1 i (x ∷ [])) rises (λ q. (forth q, back q))
   where
     x : ℕ
     x = r + d * 3 ^ i
@@ -106,19 +112,19 @@ lows-single i r d h k = rising-ext (lows 1 i (x ∷ [])) (r ∷ []) (lows-rising
     rises : Rising (r ∷ [])
     rises = unfold Rising in ((λ y m. absurd (omega (arith, times-nil y))), tt)
 
-    forth : (q : ℕ) → 0 < times q (lows 1 i (x ∷ [])) → 0 < times q (r ∷ [])
+    forth : (q : ℕ) → 0 < times q (restrictions 1 i (x ∷ [])) → 0 < times q (r ∷ [])
     forth q m =
-        let (b, s) = lows-holds 1 i (x ∷ []) q m in
+        let (b, s) = restrictions-holds 1 i (x ∷ []) q m in
         let (d′, k′, m′) = some-sign i (x ∷ []) q s in
         let e : q ≡ r = sym (low-digits i d′ b) ∙ ap (λ (y : ℕ). y % 3 ^ i) (times-one (q + d′ * 3 ^ i) x m′) ∙ low-digits i d h in
         rw e (omega (arith, times-same r []))
 
-    back : (q : ℕ) → 0 < times q (r ∷ []) → 0 < times q (lows 1 i (x ∷ []))
-    back q m = rw (times-one q r m) (lows-in 1 i (x ∷ []) r h (sign-some i (x ∷ []) r d k (omega (arith, times-same x []))))
+    back : (q : ℕ) → 0 < times q (r ∷ []) → 0 < times q (restrictions 1 i (x ∷ []))
+    back q m = rw (times-one q r m) (restrictions-in 1 i (x ∷ []) r h (sign-some i (x ∷ []) r d k (omega (arith, times-same x []))))
 
-lows-single-more : (k i x : ℕ) → 2 ≤ k → lows k i (x ∷ []) ≡ []
-lows-single-more k i x h =
-    empty (lows k i (x ∷ [])) (λ q m. let (b, e) = lows-holds k i (x ∷ []) q m in omega (arith, signs-single i q x))
+restrictions-single-more : (k i x : ℕ) → 2 ≤ k → restrictions k i (x ∷ []) ≡ []
+restrictions-single-more k i x h =
+    empty (restrictions k i (x ∷ [])) (λ q m. let (b, e) = restrictions-holds k i (x ∷ []) q m in omega (arith, signs-single i q x))
 
 pub adapted-single : (i x : ℕ) → x < 3 ^ i → adapted i (x ∷ []) ≡ 0 ∷ []
 unfolding adapted shift
@@ -128,7 +134,14 @@ adapted-single (suc i) x h = go (digits i x h) (adapted-single i)
     go : (r d : ℕ) × (r < 3 ^ i) × (d < 3) × (x ≡ r + d * 3 ^ i) → ((r : ℕ) → r < 3 ^ i → adapted i (r ∷ []) ≡ 0 ∷ [])
         → adapted (suc i) (x ∷ []) ≡ 0 ∷ []
     go (r, d, b, c, e) ih =
-        rw (e, lows-single i r d b c, lows-single-more 2 i (r + d * 3 ^ i) (omega arith), lows-single-more 3 i (r + d * 3 ^ i) (omega arith), ih r b, adapted-nil i) refl
+        rw (
+          e,
+          restrictions-single i r d b c,
+          restrictions-single-more 2 i (r + d * 3 ^ i) (omega arith),
+          restrictions-single-more 3 i (r + d * 3 ^ i) (omega arith),
+          ih r b,
+          adapted-nil i,
+        ) refl
 
 -- a rising list of patterns of no polynomials has at most one
 pub one-at-most : (l : List ℕ) → Rising l → Below 1 l → length l ≤ 1
@@ -139,7 +152,8 @@ one-at-most (x ∷ y ∷ l) r b = absurd (omega (arith, r .0 y (omega (arith, ti
 
 -- ---- patterns chosen by their marks
 
-chosen-inside : (k q : ℕ) (l m : List ℕ) → 0 < times q (chosen k l m) → (j : ℕ) × (j < length l) × (getD l j 0 ≡ q) × (k ≤ countOf (getD m j 0))
+chosen-inside : (k q : ℕ) (l m : List ℕ) → 0 < times q (chosen k l m) → (j : ℕ) × (j < length l) × (getD l j 0 ≡ q)
+    × (k ≤ countOf (getD m j 0))
 unfolding chosen
 chosen-inside k q [] m h = absurd (omega (arith, times-nil q))
 chosen-inside k q (x ∷ l) [] h = absurd (omega (arith, times-nil q))
@@ -157,7 +171,8 @@ chosen-inside k q (x ∷ l) (c ∷ m) h = go (leb k (countOf c)) refl h (chosen-
     go true t h′ ih (no e) = later (ih (omega (arith, times-other q x (chosen k l m) e)))
     go false t h′ ih d = later (ih h′)
 
-chosen-stands : (k : ℕ) (l m : List ℕ) (j : ℕ) → j < length l → j < length m → k ≤ countOf (getD m j 0) → 0 < times (getD l j 0) (chosen k l m)
+chosen-stands : (k : ℕ) (l m : List ℕ) (j : ℕ) → j < length l → j < length m → k ≤ countOf (getD m j 0)
+    → 0 < times (getD l j 0) (chosen k l m)
 unfolding chosen
 chosen-stands k [] m j a b h = absurd (omega arith)
 chosen-stands k (x ∷ l) [] j a b h = absurd (omega arith)
@@ -234,12 +249,14 @@ marks-few w L q = omega arith
 module _ (i n : ℕ) (L low mark at : List ℕ) (s : Split (3 ^ i) L n low mark at) (a : n ≤ length low) (b : n ≤ length mark) where
   pub fronts-below : Below (3 ^ i) (take n low)
   fronts-below =
-      below-by (3 ^ i) (take n low) (λ j h. let k : j < n = omega (arith, length-take-le n low a) in rw (getD-take n low j 0 k) (s .below j k))
+      below-by (3 ^ i) (take n low)
+      (λ j h. let k : j < n = omega (arith, length-take-le n low a) in rw (getD-take n low j 0 k) (s .below j k))
 
   pub fronts-marks : Below 8 (take n mark)
   fronts-marks =
       below-by 8 (take n mark)
-      (λ j h. let k : j < n = omega (arith, length-take-le n mark b) in rw (getD-take n mark j 0 k, s .marks j k) (marks-few (3 ^ i) L (getD low j 0)))
+      (λ j h. let k : j < n = omega (arith, length-take-le n mark b) in
+      rw (getD-take n mark j 0 k, s .marks j k) (marks-few (3 ^ i) L (getD low j 0)))
 
   -- a pattern that stands with some sign has a place
   fronts-place : (q : ℕ) → q < 3 ^ i → 1 ≤ signsOf i L q → (j : ℕ) × (j < n) × (getD low j 0 ≡ q)
@@ -252,20 +269,22 @@ module _ (i n : ℕ) (L low mark at : List ℕ) (s : Split (3 ^ i) L n low mark 
   fronts-signs j h = rw (getD-take n mark j 0 h, s .marks j h) (count-signs i L (getD low j 0))
 
   -- by their marks, the patterns left are chosen as document 01's L2 and L3 are
-  pub fronts-chosen : (k : ℕ) → 1 ≤ k → chosen k (take n low) (take n mark) ≡ lows k i L
+  pub fronts-chosen : (k : ℕ) → 1 ≤ k → chosen k (take n low) (take n mark) ≡ restrictions k i L
   fronts-chosen k h =
-      rising-ext (chosen k (take n low) (take n mark)) (lows k i L) (chosen-rising k (take n low) (take n mark) (s .rising)) (lows-rising k i L) (λ q. (forth q, back q))
+      rising-ext (chosen k (take n low) (take n mark)) (restrictions k i L) (chosen-rising k (take n low) (take n mark) (s .rising))
+      (restrictions-rising k i L) (λ q. (forth q, back q))
     where
-      forth : (q : ℕ) → 0 < times q (chosen k (take n low) (take n mark)) → 0 < times q (lows k i L)
+      forth : (q : ℕ) → 0 < times q (chosen k (take n low) (take n mark)) → 0 < times q (restrictions k i L)
       forth q m =
           let (j, f, e, c) = chosen-inside k q (take n low) (take n mark) m in
           let f′ : j < n = omega (arith, length-take-le n low a) in
           let e′ : getD low j 0 ≡ q = sym (getD-take n low j 0 f′) ∙ e in
-          subst (λ (y : ℕ). 0 < times y (lows k i L)) e′ (lows-in k i L (getD low j 0) (s .below j f′) (omega (arith, fronts-signs j f′)))
+          subst (λ (y : ℕ). 0 < times y (restrictions k i L)) e′
+          (restrictions-in k i L (getD low j 0) (s .below j f′) (omega (arith, fronts-signs j f′)))
 
-      back : (q : ℕ) → 0 < times q (lows k i L) → 0 < times q (chosen k (take n low) (take n mark))
+      back : (q : ℕ) → 0 < times q (restrictions k i L) → 0 < times q (chosen k (take n low) (take n mark))
       back q m =
-          let (b′, c) = lows-holds k i L q m in
+          let (b′, c) = restrictions-holds k i L q m in
           let (j, f, e) = fronts-place q b′ (omega arith) in
           let g : k ≤ countOf (getD (take n mark) j 0) = rw (fronts-signs j f, e) c in
           let e′ : getD (take n low) j 0 ≡ q = getD-take n low j 0 f ∙ e in
@@ -273,27 +292,28 @@ module _ (i n : ℕ) (L low mark at : List ℕ) (s : Split (3 ^ i) L n low mark 
           (chosen-stands k (take n low) (take n mark) j (omega (arith, length-take-le n low a)) (omega (arith, length-take-le n mark b)) g)
 
   -- each of them stands with some sign: they are L1
-  pub fronts-lows : take n low ≡ lows 1 i L
-  fronts-lows = rising-ext (take n low) (lows 1 i L) (s .rising) (lows-rising 1 i L) (λ q. (forth q, back q))
+  pub fronts-restrictions : take n low ≡ restrictions 1 i L
+  fronts-restrictions = rising-ext (take n low) (restrictions 1 i L) (s .rising) (restrictions-rising 1 i L) (λ q. (forth q, back q))
     where
-      forth : (q : ℕ) → 0 < times q (take n low) → 0 < times q (lows 1 i L)
+      forth : (q : ℕ) → 0 < times q (take n low) → 0 < times q (restrictions 1 i L)
       forth q m =
           let (j, f, e) = place-of q (take n low) m in
           let f′ : j < n = omega (arith, length-take-le n low a) in
           let e′ : getD low j 0 ≡ q = sym (getD-take n low j 0 f′) ∙ e in
           let g : 0 < marksOf (3 ^ i) L (getD low j 0) = rw (s .marks j f′) at (s .stands j f′) in
-          subst (λ (y : ℕ). 0 < times y (lows 1 i L)) e′ (lows-in 1 i L (getD low j 0) (s .below j f′) (signs-marked i L (getD low j 0) g))
+          subst (λ (y : ℕ). 0 < times y (restrictions 1 i L)) e′
+          (restrictions-in 1 i L (getD low j 0) (s .below j f′) (signs-marked i L (getD low j 0) g))
 
-      back : (q : ℕ) → 0 < times q (lows 1 i L) → 0 < times q (take n low)
+      back : (q : ℕ) → 0 < times q (restrictions 1 i L) → 0 < times q (take n low)
       back q m =
-          let (b′, c) = lows-holds 1 i L q m in
+          let (b′, c) = restrictions-holds 1 i L q m in
           let (j, f, e) = fronts-place q b′ c in
           let e′ : getD (take n low) j 0 ≡ q = getD-take n low j 0 f ∙ e in
           subst (λ (y : ℕ). 0 < times y (take n low)) e′ (stands-at (take n low) j (omega (arith, length-take-le n low a)))
 
   pub fronts-parts : partsOf i (take n low) (take n mark) ≡ adapted (suc i) L
   unfolding partsOf adapted
-  fronts-parts = rw (fronts-chosen 2 (omega arith), fronts-chosen 3 (omega arith), fronts-lows) refl
+  fronts-parts = rw (fronts-chosen 2 (omega arith), fronts-chosen 3 (omega arith), fronts-restrictions) refl
 
 -- ---- the three parts, one after the other
 
@@ -347,7 +367,8 @@ some-polynomial (suc i) l r b h k = omega arith
 -- ---- what the code lends on
 
 -- the patterns chosen, in an array of 64
-pub front : (k n : ℕ) (low mark l : List ℕ) → length low ≤ 64 → n ≡ length (chosen k low mark) → l ≡ sets (replicate 64 0) 0 (chosen k low mark)
+pub front : (k n : ℕ) (low mark l : List ℕ) → length low ≤ 64 → n ≡ length (chosen k low mark) → l
+    ≡ sets (replicate 64 0) 0 (chosen k low mark)
     → take n l ≡ chosen k low mark
 front k n low mark l h e p = rw p (take-sets (chosen k low mark) (replicate 64 0) n e (omega (arith, chosen-length k low mark)))
 

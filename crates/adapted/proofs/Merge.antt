@@ -1,4 +1,4 @@
--- The blocks of a rising list, and the elements chosen by their marks. Assumes nothing.
+-- The blocks of a rising list, and the elements chosen by their marks.
 use mathlib.Core.Path.{_≡_, refl, ap}
 use mathlib.Core.Bool.{Bool, true, false, cond}
 use mathlib.Core.List.{List, [], _∷_, _++_}
@@ -14,7 +14,8 @@ use Rattle.adapted.specs.Split.{leading, chosen, countOf}
 -- ---- the blocks
 
 -- a place with smaller elements before it and none behind is where the rest begins
-pub leading-at : (b : ℕ) (l : List ℕ) (k : ℕ) → k ≤ length l → ((j : ℕ) → j < k → getD l j 0 < b) → (k < length l → b ≤ getD l k 0) → k ≡ leading b l
+pub leading-at : (b : ℕ) (l : List ℕ) (k : ℕ) → k ≤ length l → ((j : ℕ) → j < k → getD l j 0 < b) → (k < length l → b ≤ getD l k 0) → k
+    ≡ leading b l
 unfolding leading
 leading-at b [] k h f g = omega arith
 leading-at b (x ∷ l) zero h f g = rw (le-leb b x (g (omega arith))) refl
@@ -42,7 +43,8 @@ chosen-append k (q ∷ l) [] l′ m′ e = absurd (omega arith)
 chosen-append k (q ∷ l) (m ∷ ms) l′ m′ e = go (leb k (countOf m)) (chosen-append k l ms l′ m′ (omega arith))
   where
     go : (b : Bool) → chosen k (l ++ l′) (ms ++ m′) ≡ chosen k l ms ++ chosen k l′ m′
-        → cond b (q ∷ chosen k (l ++ l′) (ms ++ m′)) (chosen k (l ++ l′) (ms ++ m′)) ≡ cond b (q ∷ chosen k l ms) (chosen k l ms) ++ chosen k l′ m′
+        → cond b (q ∷ chosen k (l ++ l′) (ms ++ m′)) (chosen k (l ++ l′) (ms ++ m′))
+        ≡ cond b (q ∷ chosen k l ms) (chosen k l ms) ++ chosen k l′ m′
     go true h = ap (λ (x : List ℕ). q ∷ x) h
     go false h = h
 

@@ -1,4 +1,4 @@
--- The merge of the three blocks of a rising list: the state of one block, one turn, and what is left at the end. Assumes nothing.
+-- The merge of the three blocks of a rising list: the state of one block, one turn, and what is left at the end.
 use mathlib.Core.Path.{_≡_, refl, sym, ap, _∙_, subst}
 use mathlib.Core.Bool.{Bool, true, false, cond}
 use mathlib.Core.Logic.{_≢_, _⊎_, inl, inr}
@@ -280,7 +280,8 @@ no-block L base from to low at h f =
       places = λ j a c. absurd (omega arith);
     }
 
-module _ (L : List ℕ) (w mid top : ℕ) (r : Rising L) (below-3 : Below (3 * w) L) (em : mid ≡ leading w L) (et : top ≡ leading (2 * w) L) where
+module _ (L : List ℕ) (w mid top : ℕ) (r : Rising L) (below-3 : Below (3 * w) L) (em : mid ≡ leading w L)
+    (et : top ≡ leading (2 * w) L) where
   pub zero-range : Range L w 0 0 mid
   zero-range = rw em (rw (leading-zero L, zero-add) at (range L w 0 r))
 
@@ -368,7 +369,8 @@ module _ (L : List ℕ) (w mid top : ℕ) (r : Rising L) (below-3 : Below (3 * w
       unfolding Rising
       rises =
           rw (take-suc-set low n q room)
-          (rising-append (take n low) (q ∷ []) (s .rising) (λ y′ k. absurd (omega (arith, times-nil y′)), tt) (λ u v i k. under u i (times-one v q k)))
+          (rising-append (take n low) (q ∷ []) (s .rising) (λ y′ k. absurd (omega (arith, times-nil y′)), tt)
+          (λ u v i k. under u i (times-one v q k)))
         where
           under : (u : ℕ) {v : ℕ} → 0 < times u (take n low) → v ≡ q → u < v
           under u i e =
@@ -420,7 +422,8 @@ module _ (L : List ℕ) (w mid top : ℕ) (r : Rising L) (below-3 : Below (3 * w
       minus-after =
           block-turn minus-range r
           (block-kept
-          (block-kept (s .minus-block) (eqb x q) a n (λ o. inl (omega (arith, next-left zero-range r (s .zero-block) x ex q h o, plus-range .ordered))))
+          (block-kept (s .minus-block) (eqb x q) a n
+          (λ o. inl (omega (arith, next-left zero-range r (s .zero-block) x ex q h o, plus-range .ordered))))
           (eqb y q) b n (λ o. inl (next-left plus-range r (s .plus-block) y ey q h o)))
           z ez q from-t (omega arith) h room (λ i. omega (arith, noted-length (eqb y q) at₁ b n, noted-length (eqb x q) at a n))
 
@@ -439,7 +442,8 @@ module _ (L : List ℕ) (w mid top : ℕ) (r : Rising L) (below-3 : Below (3 * w
             stood = added (λ u v. 0 < v) (s .stood) (omega (arith, stood-one));
           }
 
-      pub turned : (A₁ A₂ A₃ : List ℕ) → A₁ ≡ cond (eqb x q) (set at a n) at → A₂ ≡ cond (eqb y q) (set A₁ b n) A₁ → A₃ ≡ cond (eqb z q) (set A₂ c n) A₂
+      pub turned : (A₁ A₂ A₃ : List ℕ) → A₁ ≡ cond (eqb x q) (set at a n) at → A₂ ≡ cond (eqb y q) (set A₁ b n) A₁ → A₃
+          ≡ cond (eqb z q) (set A₂ c n) A₂
           → Merged L w mid top (set low n q) (set mark n m) A₃ (a + bitOf x q) (b + bitOf y q) (c + bitOf z q) (n + 1) (suc q)
       unfolding at₁ at₂ at₃
       turned A₁ A₂ A₃ e₁ e₂ e₃ =

@@ -1,4 +1,4 @@
--- The table of the counts of marks, and lists written one after the other. Assumes nothing.
+-- The table of the counts of marks, and lists written one after the other.
 use mathlib.Core.Path.{_≡_, refl, sym, _∙_}
 use mathlib.Core.List.{List, [], _∷_, _++_}
 use Prim.Native.Nat.{ℕ, zero, suc, _+_, _≤_, _<_}

@@ -1,13 +1,14 @@
--- The last polynomial taken off a rising list of patterns, as the code does it: by merging the three blocks of the list. Assumes nothing: these
--- are definitions, of inner functions; the laws that tie them to `lows` and `adapted` are in proofs/Adapting.antt.
+-- The last polynomial taken off a rising list of patterns, as the code does it: by merging the three blocks of the list. Definitions of
+-- inner functions; the laws that tie them to `lows` and `adapted` are in proofs/Adapting.antt.
 --
---   leading b l         == how many elements of l stand before the first that is not below b
---   headOf l k e b w    == the element of l at k less b, where k is before e, else w
---   marksOf w L q       == the signs with which q stands in L, where the last digit weighs w: 1 for 0, 2 for +, 4 for −, added up
---   countOf m           == how many signs the mark m has
---   chosen k l m        == those of l whose mark has at least k signs
---   partsOf i l m       == the three parts of an adapted list, from the patterns l of i polynomials that are left, with their marks m
---   Split w L n low mark at == what the merge of L leaves: the n patterns left, their marks, and for each element of L the place of its low part
+--   leading b l             == how many elements of l stand before the first that is not below b
+--   headOf l k e b w        == the element of l at k less b, where k is before e, else w
+--   marksOf w L q           == the signs with which q stands in L, where the last digit weighs w: 1 for 0, 2 for +, 4 for −, added up
+--   countOf m               == how many signs the mark m has
+--   chosen k l m            == those of l whose mark has at least k signs
+--   partsOf i l m           == the three parts of an adapted list, from the patterns l of i polynomials that are left, with their marks m
+--   Split w L n low mark at == what the merge of L leaves: the n patterns left, their marks, and for each element of L the place of its low
+--                              part
 use mathlib.Core.Bool.{cond}
 use mathlib.Core.Path.{_≡_}
 use mathlib.Core.List.{List, [], _∷_, _++_}

@@ -1,4 +1,4 @@
--- A list gone through from its end down, each element below the one after it, is rising. Assumes nothing.
+-- A list gone through from its end down, each element below the one after it, is rising.
 --
 --   Passed l b a k == what stands in l from k on is rising, below b and at least a, which is at most b
 use mathlib.Core.Path.{_≡_, refl, subst}
@@ -43,7 +43,8 @@ front-next b a x l h f = record {
     go y t (inl (e, _)) = omega arith
     go y t (inr (e, _)) = omega (arith, times-other y x l e, f .least y (omega (arith, times-other y x l e)))
 
-pub passed-next : (l : List ℕ) (b a k : ℕ) → 0 < k → k ≤ length l → getD l (k - 1) 0 < a → Passed l b a k → Passed l b (getD l (k - 1) 0) (k - 1)
+pub passed-next : (l : List ℕ) (b a k : ℕ) → 0 < k → k ≤ length l → getD l (k - 1) 0 < a → Passed l b a k
+    → Passed l b (getD l (k - 1) 0) (k - 1)
 passed-next l b a k p h x f =
     let e : k ≡ suc (k - 1) = omega arith in
     rw (drop-cons l (k - 1) 0 (omega arith)) (front-next b a _ _ x (subst (λ (n : ℕ). Front b a (drop n l)) e f))

@@ -1,4 +1,4 @@
--- The bodies of a card, one polynomial at a time. Assumes nothing.
+-- The bodies of a card, one polynomial at a time.
 use mathlib.Core.Path.{_≡_, _∙_}
 use mathlib.Core.List.{List}
 use Prim.Native.Nat.{ℕ, suc, _+_, _-_, _≤_, _<_}
@@ -6,29 +6,29 @@ use native.Mathlib.Numerals.{add-one}
 use native.Mathlib.Omega.{arith}
 use borrow.Author.Tests.{eq-eqb, ne-eqb}
 use Rattle.layout.specs.Format.{offset, size}
-use Rattle.card.specs.Card.{polynomial, bodies, last}
+use Rattle.card.specs.Card.{polynomialRefusal, bodiesRefusal, pointsRefusal}
 use Rattle.card.proofs.Causes.{first-some}
 
 module _ (c : List ℕ) (s j at : ℕ) where
-  pub no-more : s ≤ j → bodies c (s - j) j at ≡ last c at
-  unfolding bodies
+  pub no-more : s ≤ j → bodiesRefusal c (s - j) j at ≡ pointsRefusal c at
+  unfolding bodiesRefusal
   no-more h = let e : s - j ≡ 0 = omega arith in rw e
 
   module _ (more : j < s) where
     one-left : s - j ≡ suc (s - (j + 1))
     one-left = omega arith
 
-    pub bad-polynomial : (polynomial c at ≡ 0 → ⊥) → polynomial c at ≡ bodies c (s - j) j at
-    unfolding bodies
-    bad-polynomial h = rw one-left (first-some (polynomial c at) _ h)
+    pub bad-polynomial : (polynomialRefusal c at ≡ 0 → ⊥) → polynomialRefusal c at ≡ bodiesRefusal c (s - j) j at
+    unfolding bodiesRefusal
+    bad-polynomial h = rw one-left (first-some (polynomialRefusal c at) _ h)
 
-    module _ (good : polynomial c at ≡ 0) where
-      pub bad-next : (offset c (j + 1) ≡ at + size c at → ⊥) → bodies c (s - j) j at ≡ 4
-      unfolding bodies
+    module _ (good : polynomialRefusal c at ≡ 0) where
+      pub bad-next : (offset c (j + 1) ≡ at + size c at → ⊥) → bodiesRefusal c (s - j) j at ≡ 4
+      unfolding bodiesRefusal
       bad-next h = rw one-left (rw (good, ← add-one j) (simp (ne-eqb (offset c (j + 1)) (at + size c at) h)))
 
       pub good-next : (next : ℕ) → next ≡ at + size c at → offset c (j + 1) ≡ next
-          → bodies c (s - j) j at ≡ bodies c (s - (j + 1)) (j + 1) next
-      unfolding bodies
+          → bodiesRefusal c (s - j) j at ≡ bodiesRefusal c (s - (j + 1)) (j + 1) next
+      unfolding bodiesRefusal
       good-next next e h =
           rw (one-left, e) (rw (good, ← add-one j) (simp (eq-eqb (offset c (j + 1)) (at + size c at) (h ∙ e))))

@@ -1,4 +1,4 @@
--- Laws of causes in order. Assumes nothing.
+-- Laws of causes in order.
 use mathlib.Core.Path.{_≡_, refl, sym}
 use mathlib.Core.Bool.{Bool, true, false, not}
 use Prim.Native.Nat.{ℕ, zero, suc}

@@ -5,6 +5,6 @@ pub mod Polynomial
 pub mod Points
 pub mod Bodies
 pub mod Sound
-pub mod Places
+pub mod Positions
 pub mod Listed
 pub mod Edges

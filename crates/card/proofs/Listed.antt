@@ -11,8 +11,9 @@ use Rattle.refusals.specs.Numbers.{wrongLength, wrongByte, wrongCount, wrongOff
 use Rattle.refusals.specs.Numbers.{cardNumbers, isAmong, Among, _when_, _▸_}
 use Rattle.refusals.specs.Limits.{mostPolynomials, mostPoints, mostDegree, mostCoefficient, mostPoint}
 use Rattle.refusals.proofs.Causes.{then-among, only-among, first-among}
-use Rattle.layout.specs.Format.{byte, polynomials, points, offset, first, degree, size, coefficient, point}
-use Rattle.card.specs.Card.{some, outside, falling, contents, header, coefficients, polynomial, bodies, last, refusal, place}
+use Rattle.layout.specs.Format.{byte, polynomials, pointCount, offset, bodiesAt, degree, size, coefficient, point}
+use Rattle.card.specs.Card.{anyBelow, outside, falling, contentsRefusal, headerRefusal, coefficientsRefusal, polynomialRefusal}
+use Rattle.card.specs.Card.{bodiesRefusal, pointsRefusal, refusal, positionRefusal}
 
 -- none, or a card's number
 abbrev pub Listed : ℕ → Type 0
@@ -35,54 +36,54 @@ unfolding isAmong
 only-listed m t h = only-among m t (record { stands = refl }) (there m h)
 
 module _ (c : List ℕ) where
-  contents-listed : Listed (contents c)
-  unfolding contents isAmong cardNumbers
+  contents-listed : Listed (contentsRefusal c)
+  unfolding contentsRefusal isAmong cardNumbers
   contents-listed =
-      first-listed wrongLength (ltb (length c) (first c)) refl
-      (only-listed wrongOffset (not (eqb (offset c 0) (first c))) refl)
+      first-listed wrongLength (ltb (length c) (bodiesAt c)) refl
+      (only-listed wrongOffset (not (eqb (offset c 0) (bodiesAt c))) refl)
 
-  header-listed : Listed (header c)
-  unfolding header isAmong cardNumbers
+  header-listed : Listed (headerRefusal c)
+  unfolding headerRefusal isAmong cardNumbers
   header-listed =
       first-listed wrongLength (ltb (length c) 4) refl
       (first-listed wrongByte (not (eqb (byte c 0) 1) || not (eqb (byte c 3) 0)) refl
       (first-listed wrongCount (ltb (polynomials c) 1 || ltb mostPolynomials (polynomials c)) refl
-      (first-listed wrongCount (ltb mostPoints (points c)) refl contents-listed)))
+      (first-listed wrongCount (ltb mostPoints (pointCount c)) refl contents-listed)))
 
-  last-listed : (at : ℕ) → Listed (last c at)
-  unfolding last isAmong cardNumbers
+  last-listed : (at : ℕ) → Listed (pointsRefusal c at)
+  unfolding pointsRefusal isAmong cardNumbers
   last-listed at =
-      first-listed wrongLength (not (eqb (length c) (at + points c))) refl
-      (only-listed wrongPoint (some (λ k. outside mostPoint (point c at k) || falling c at k) (points c)) refl)
+      first-listed wrongLength (not (eqb (length c) (at + pointCount c))) refl
+      (only-listed wrongPoint (anyBelow (λ k. outside mostPoint (point c at k) || falling c at k) (pointCount c)) refl)
 
-  coefficients-listed : (at : ℕ) → Listed (coefficients c at)
-  unfolding coefficients isAmong cardNumbers
+  coefficients-listed : (at : ℕ) → Listed (coefficientsRefusal c at)
+  unfolding coefficientsRefusal isAmong cardNumbers
   coefficients-listed at =
-      first-listed wrongPolynomial (some (λ i. outside mostCoefficient (coefficient c at i)) (degree c at + 1)) refl
+      first-listed wrongPolynomial (anyBelow (λ i. outside mostCoefficient (coefficient c at i)) (degree c at + 1)) refl
       (only-listed wrongPolynomial (ltb 0 (degree c at) && eqb (natAbs (coefficient c at (degree c at))) 0) refl)
 
-  polynomial-listed : (at : ℕ) → Listed (polynomial c at)
-  unfolding polynomial isAmong cardNumbers
+  polynomial-listed : (at : ℕ) → Listed (polynomialRefusal c at)
+  unfolding polynomialRefusal isAmong cardNumbers
   polynomial-listed at =
       first-listed wrongLength (leb (length c) at) refl
       (first-listed wrongPolynomial (ltb mostDegree (degree c at)) refl
       (first-listed wrongLength (ltb (length c) (at + size c at)) refl (coefficients-listed at)))
 
-  bodies-listed : (k j at : ℕ) → Listed (bodies c k j at)
-  unfolding bodies isAmong cardNumbers
+  bodies-listed : (k j at : ℕ) → Listed (bodiesRefusal c k j at)
+  unfolding bodiesRefusal isAmong cardNumbers
   bodies-listed zero j at = last-listed at
   bodies-listed (suc k) j at =
-      then-among (polynomial c at) (polynomial-listed at)
+      then-among (polynomialRefusal c at) (polynomial-listed at)
       (first-listed wrongOffset (not (eqb (offset c (suc j)) (at + size c at))) refl (bodies-listed k (suc j) (at + size c at)))
 
   -- THE LAW for a card
   pub refusal-listed : Listed (refusal c)
   unfolding refusal
-  refusal-listed = then-among (header c) header-listed (bodies-listed (polynomials c) 0 (first c))
+  refusal-listed = then-among (headerRefusal c) header-listed (bodies-listed (polynomials c) 0 (bodiesAt c))
 
   -- and for a position on it
-  pub place-listed : (j : ℕ) → Listed (place c j) ⊎ (place c j ≡ pastLast)
-  unfolding place
+  pub place-listed : (j : ℕ) → Listed (positionRefusal c j) ⊎ (positionRefusal c j ≡ pastLast)
+  unfolding positionRefusal
   place-listed j = go (refusal c) (leb (polynomials c) j) refusal-listed
     where
       go : (m : ℕ) (t : Bool) → Listed m → Listed (m ▸ pastLast when t) ⊎ ((m ▸ pastLast when t) ≡ pastLast)

@@ -1,4 +1,4 @@
--- The points of a card, case by case. Assumes nothing.
+-- The points of a card, case by case.
 --
 --   wrong c at k   == point k is outside its limits or falling
 --   Low c at k low == low is the point before point k, or the least that a point may be, with 128 added
@@ -13,8 +13,8 @@ use borrow.Author.Tests.{eq-eqb, ne-eqb}
 use lib.IntN.{ℤ, pos, _+ℤ_}
 use lib.ListN.{length}
 use Rattle.integers.proofs.Parts.{int, sum, parts, side}
-use Rattle.layout.specs.Format.{points, point}
-use Rattle.card.specs.Card.{some, outside, falling, last}
+use Rattle.layout.specs.Format.{pointCount, point}
+use Rattle.card.specs.Card.{anyBelow, outside, falling, pointsRefusal}
 use Rattle.card.proofs.Some.{or-left, or-right, or-false, some-true}
 
 abbrev pub wrong : List ℕ → ℕ → ℕ → Bool
@@ -59,15 +59,15 @@ module _ (c : List ℕ) (at : ℕ) where
       or-false _ _ (within (suc k) p is (omega (arith, l .1)) m) e
 
   -- the last answer
-  module _ (full : length c ≡ at + points c) where
-    pub bad-point : (k : ℕ) → k < points c → wrong c at k ≡ true → last c at ≡ 6
-    unfolding last
-    bad-point k h e = simp (eq-eqb (length c) (at + points c) full, some-true (wrong c at) (points c) k h e)
+  module _ (full : length c ≡ at + pointCount c) where
+    pub bad-point : (k : ℕ) → k < pointCount c → wrong c at k ≡ true → pointsRefusal c at ≡ 6
+    unfolding pointsRefusal
+    bad-point k h e = simp (eq-eqb (length c) (at + pointCount c) full, some-true (wrong c at) (pointCount c) k h e)
 
-    pub good-points : some (wrong c at) (points c) ≡ false → last c at ≡ 0
-    unfolding last
-    good-points e = simp (eq-eqb (length c) (at + points c) full, e)
+    pub good-points : anyBelow (wrong c at) (pointCount c) ≡ false → pointsRefusal c at ≡ 0
+    unfolding pointsRefusal
+    good-points e = simp (eq-eqb (length c) (at + pointCount c) full, e)
 
-  pub not-full : (length c ≡ at + points c → ⊥) → last c at ≡ 1
-  unfolding last
-  not-full h = simp (ne-eqb (length c) (at + points c) h)
+  pub not-full : (length c ≡ at + pointCount c → ⊥) → pointsRefusal c at ≡ 1
+  unfolding pointsRefusal
+  not-full h = simp (ne-eqb (length c) (at + pointCount c) h)

@@ -1,4 +1,4 @@
--- One polynomial of a card, case by case. Assumes nothing.
+-- One polynomial of a card, case by case.
 use mathlib.Core.Path.{_≡_, sym, ap, _∙_}
 use mathlib.Core.Bool.{true, false}
 use mathlib.Core.Logic.{_⊎_, inl, inr, ⊎-elim}
@@ -12,7 +12,7 @@ use lib.ListN.{length}
 use Rattle.integers.proofs.Abs.{abs-zero}
 use Rattle.refusals.specs.Numbers.{_when_, _▸_}
 use Rattle.layout.specs.Format.{degree, size, coefficient, two's}
-use Rattle.card.specs.Card.{some, outside, coefficients, polynomial}
+use Rattle.card.specs.Card.{anyBelow, outside, coefficientsRefusal, polynomialRefusal}
 use Rattle.layout.specs.Body.{Whole, Small, Body}
 use Rattle.card.proofs.Some.{some-true, some-false, none-below}
 use Rattle.card.proofs.Causes.{first-none, then-none, holds-not}
@@ -28,48 +28,49 @@ pub abs-word-zero : (w : ℕ) → w ≡ 0 → natAbs (two's (2 ^ 31) w) ≡ 0
 abs-word-zero w e = omega (arith, abs-low (2 ^ 31) w (omega arith))
 
 module _ (c : List ℕ) (at : ℕ) where
-  pub large-coefficient : (i : ℕ) → i ≤ degree c at → outside 1000000 (coefficient c at i) ≡ true → coefficients c at ≡ 5
-  unfolding coefficients
+  pub large-coefficient : (i : ℕ) → i ≤ degree c at → outside 1000000 (coefficient c at i) ≡ true → coefficientsRefusal c at ≡ 5
+  unfolding coefficientsRefusal
   large-coefficient i h e =
       simp (some-true (λ k. outside 1000000 (coefficient c at k)) (degree c at + 1) i (omega arith) e)
 
-  module _ (none : some (λ k. outside 1000000 (coefficient c at k)) (degree c at + 1) ≡ false) where
-    pub zero-top : 0 < degree c at → natAbs (coefficient c at (degree c at)) ≡ 0 → coefficients c at ≡ 5
-    unfolding coefficients
+  module _ (none : anyBelow (λ k. outside 1000000 (coefficient c at k)) (degree c at + 1) ≡ false) where
+    pub zero-top : 0 < degree c at → natAbs (coefficient c at (degree c at)) ≡ 0 → coefficientsRefusal c at ≡ 5
+    unfolding coefficientsRefusal
     zero-top h e = simp (none, lt-ltb 0 (degree c at) h, eq-eqb _ 0 e)
 
-    pub sound-constant : degree c at ≤ 0 → coefficients c at ≡ 0
-    unfolding coefficients
+    pub sound-constant : degree c at ≤ 0 → coefficientsRefusal c at ≡ 0
+    unfolding coefficientsRefusal
     sound-constant h = simp (none, le-ltb 0 (degree c at) h)
 
-    pub sound-coefficients : 0 < degree c at → (natAbs (coefficient c at (degree c at)) ≡ 0 → ⊥) → coefficients c at ≡ 0
-    unfolding coefficients
+    pub sound-coefficients : 0 < degree c at → (natAbs (coefficient c at (degree c at)) ≡ 0 → ⊥) → coefficientsRefusal c at ≡ 0
+    unfolding coefficientsRefusal
     sound-coefficients h e = simp (none, lt-ltb 0 (degree c at) h, ne-eqb _ 0 e)
 
-  pub no-degree : length c ≤ at → polynomial c at ≡ 1
-  unfolding polynomial
+  pub no-degree : length c ≤ at → polynomialRefusal c at ≡ 1
+  unfolding polynomialRefusal
   no-degree h = simp (le-leb (length c) at h)
 
   module _ (begins : at < length c) where
-    pub large-degree : 6 < degree c at → polynomial c at ≡ 5
-    unfolding polynomial
+    pub large-degree : 6 < degree c at → polynomialRefusal c at ≡ 5
+    unfolding polynomialRefusal
     large-degree h = simp (lt-leb (length c) at begins, lt-ltb 6 (degree c at) h)
 
     module _ (low : degree c at ≤ 6) where
-      pub cut-body : length c < at + size c at → polynomial c at ≡ 1
-      unfolding polynomial
+      pub cut-body : length c < at + size c at → polynomialRefusal c at ≡ 1
+      unfolding polynomialRefusal
       cut-body h =
           simp (lt-leb (length c) at begins, le-ltb 6 (degree c at) low, lt-ltb (length c) (at + size c at) h)
 
-      pub whole-body : at + size c at ≤ length c → polynomial c at ≡ coefficients c at
-      unfolding polynomial
+      pub whole-body : at + size c at ≤ length c → polynomialRefusal c at ≡ coefficientsRefusal c at
+      unfolding polynomialRefusal
       whole-body h =
           simp (lt-leb (length c) at begins, le-ltb 6 (degree c at) low, le-ltb (length c) (at + size c at) h)
 
 -- ---- a sound polynomial
-module _ (c : List ℕ) (at : ℕ) (e : polynomial c at ≡ 0) where
-  whole-rest : (1 when leb (length c) at ▸ 5 when ltb 6 (degree c at) ▸ 1 when ltb (length c) (at + size c at) ▸ coefficients c at) ≡ 0
-  unfolding polynomial
+module _ (c : List ℕ) (at : ℕ) (e : polynomialRefusal c at ≡ 0) where
+  whole-rest : (1 when leb (length c) at ▸ 5 when ltb 6 (degree c at) ▸ 1 when ltb (length c) (at + size c at) ▸ coefficientsRefusal c at)
+      ≡ 0
+  unfolding polynomialRefusal
   whole-rest = e
 
   pub whole : Whole c at
@@ -82,12 +83,12 @@ module _ (c : List ℕ) (at : ℕ) (e : polynomial c at ≡ 0) where
         ends = ltb-false (length c) (at + size c at) (holds-not 0 (ltb (length c) (at + size c at)) (first-none _ _ e2));
       }
 
-  sound : coefficients c at ≡ 0
+  sound : coefficientsRefusal c at ≡ 0
   sound = let w = whole in sym (whole-body c at (w .begins) (w .low) (w .ends)) ∙ e
 
-  none : some (λ k. outside 1000000 (coefficient c at k)) (degree c at + 1) ≡ false
-  unfolding coefficients
-  none = holds-not 4 (some (λ k. outside 1000000 (coefficient c at k)) (degree c at + 1)) (first-none _ _ sound)
+  none : anyBelow (λ k. outside 1000000 (coefficient c at k)) (degree c at + 1) ≡ false
+  unfolding coefficientsRefusal
+  none = holds-not 4 (anyBelow (λ k. outside 1000000 (coefficient c at k)) (degree c at + 1)) (first-none _ _ sound)
 
   pub small : Small c at
   small =
@@ -105,16 +106,16 @@ module _ (c : List ℕ) (at : ℕ) (e : polynomial c at ≡ 0) where
 
 -- ---- and no number refuses a sound one
 module _ (c : List ℕ) (at : ℕ) (b : Body c at) where
-  none-large : some (λ k. outside 1000000 (coefficient c at k)) (degree c at + 1) ≡ false
+  none-large : anyBelow (λ k. outside 1000000 (coefficient c at k)) (degree c at + 1) ≡ false
   none-large =
       none-below (λ k. outside 1000000 (coefficient c at k)) (degree c at + 1)
       (λ i h. le-ltb 1000000 _ (b .small .small i (omega arith)))
 
-  pub unrefused-polynomial : polynomial c at ≡ 0
+  pub unrefused-polynomial : polynomialRefusal c at ≡ 0
   unrefused-polynomial =
       let w = b .small .whole in
       whole-body c at (w .begins) (w .low) (w .ends) ∙ go (below-or 0 (degree c at))
     where
-      go : (0 < degree c at) ⊎ (degree c at ≤ 0) → coefficients c at ≡ 0
+      go : (0 < degree c at) ⊎ (degree c at ≤ 0) → coefficientsRefusal c at ≡ 0
       go (inl h) = sound-coefficients c at none-large h (λ z. absurd (omega (arith, b .top (abs-zero _ z))))
       go (inr h) = sound-constant c at none-large h

@@ -1,4 +1,4 @@
--- Laws of `some`: that a test holds of a number below n. Assumes nothing.
+-- Laws of `anyBelow`: that a test holds of a number below n.
 use mathlib.Core.Path.{_≡_, refl}
 use mathlib.Core.Bool.{Bool, true, false, _||_}
 use mathlib.Core.Logic.{_⊎_, ⊎-elim}
@@ -6,7 +6,7 @@ use Prim.Native.Nat.{ℕ, zero, suc, _+_, _<_}
 use native.Mathlib.Numerals.{add-one}
 use native.Mathlib.Omega.{arith}
 use Rattle.integers.proofs.Tests.{eq-cases}
-use Rattle.card.specs.Card.{some}
+use Rattle.card.specs.Card.{anyBelow}
 
 or-true : (a : Bool) → a || true ≡ true
 or-true true = refl
@@ -31,31 +31,31 @@ right-false true false e = refl
 right-false false b e = e
 
 module _ (f : ℕ → Bool) where
-  pub some-none : some f 0 ≡ false
-  unfolding some
+  pub some-none : anyBelow f 0 ≡ false
+  unfolding anyBelow
   some-none = refl
 
-  pub some-more : (n : ℕ) → some f n ≡ false → f n ≡ false → some f (n + 1) ≡ false
-  unfolding some
-  some-more n p q = rw (add-one n) (or-false (some f n) (f n) p q)
+  pub some-more : (n : ℕ) → anyBelow f n ≡ false → f n ≡ false → anyBelow f (n + 1) ≡ false
+  unfolding anyBelow
+  some-more n p q = rw (add-one n) (or-false (anyBelow f n) (f n) p q)
 
-  pub some-true : (n k : ℕ) → k < n → f k ≡ true → some f n ≡ true
-  unfolding some
+  pub some-true : (n k : ℕ) → k < n → f k ≡ true → anyBelow f n ≡ true
+  unfolding anyBelow
   some-true zero k h e = absurd (omega arith)
   some-true (suc n) k h e =
-      ⊎-elim (λ w. rw (← w .0, e) (or-true (some f k)))
+      ⊎-elim (λ w. rw (← w .0, e) (or-true (anyBelow f k)))
       (λ w. rw (some-true n k (omega (arith, w .0)) e))
       (eq-cases k n)
 
-  pub some-false : (n : ℕ) → some f n ≡ false → (k : ℕ) → k < n → f k ≡ false
-  unfolding some
+  pub some-false : (n : ℕ) → anyBelow f n ≡ false → (k : ℕ) → k < n → f k ≡ false
+  unfolding anyBelow
   some-false zero e k h = absurd (omega arith)
   some-false (suc n) e k h =
-      ⊎-elim (λ w. rw (w .0) (right-false (some f n) (f n) e))
-      (λ w. some-false n (left-false (some f n) (f n) e) k (omega (arith, w .0)))
+      ⊎-elim (λ w. rw (w .0) (right-false (anyBelow f n) (f n) e))
+      (λ w. some-false n (left-false (anyBelow f n) (f n) e) k (omega (arith, w .0)))
       (eq-cases k n)
 
-  pub none-below : (n : ℕ) → ((k : ℕ) → k < n → f k ≡ false) → some f n ≡ false
-  unfolding some
+  pub none-below : (n : ℕ) → ((k : ℕ) → k < n → f k ≡ false) → anyBelow f n ≡ false
+  unfolding anyBelow
   none-below zero h = refl
-  none-below (suc n) h = or-false (some f n) (f n) (none-below n (λ k l. h k (omega arith))) (h n (omega arith))
+  none-below (suc n) h = or-false (anyBelow f n) (f n) (none-below n (λ k l. h k (omega arith))) (h n (omega arith))

@@ -1,4 +1,4 @@
--- The sound cards are those that no number refuses: `sound` and `unrefused`. Assumes nothing.
+-- The sound cards are those that no number refuses: `sound` and `unrefused`.
 use mathlib.Core.Path.{_≡_, refl, sym, subst, _∙_}
 use mathlib.Core.Bool.{false, not}
 use mathlib.Core.Logic.{_⊎_, ⊎-elim}
@@ -11,8 +11,8 @@ use lib.ListN.{length}
 use Rattle.integers.proofs.Parts.{int}
 use Rattle.integers.proofs.Tests.{eq-cases}
 use Rattle.refusals.specs.Numbers.{_when_, _▸_}
-use Rattle.layout.specs.Format.{polynomials, points, offset, first, size, point}
-use Rattle.card.specs.Card.{some, outside, falling, header, polynomial, bodies, last, refusal}
+use Rattle.layout.specs.Format.{polynomials, pointCount, offset, bodiesAt, size, point}
+use Rattle.card.specs.Card.{anyBelow, outside, falling, headerRefusal, polynomialRefusal, bodiesRefusal, pointsRefusal, refusal}
 use Rattle.card.specs.Sound.{Sound}
 use Rattle.card.proofs.Some.{or-false, left-false, right-false, some-false, none-below}
 use Rattle.card.proofs.Causes.{first-none, then-none, holds-not, is-equal}
@@ -23,39 +23,41 @@ use Rattle.card.proofs.Points.{wrong, good-points}
 module _ (c : List ℕ) where
   -- ---- the polynomials from j on
   abbrev At : ℕ → Type 0
-  At i = (polynomial c (offset c i) ≡ 0) × (offset c (suc i) ≡ offset c i + size c (offset c i))
+  At i = (polynomialRefusal c (offset c i) ≡ 0) × (offset c (suc i) ≡ offset c i + size c (offset c i))
 
-  step : (k j : ℕ) → bodies c (suc k) j (offset c j) ≡ 0
-      → (polynomial c (offset c j) ▸ (4 when not (eqb (offset c (suc j)) (offset c j + size c (offset c j)))
-      ▸ bodies c k (suc j) (offset c j + size c (offset c j)))) ≡ 0
-  unfolding bodies
+  step : (k j : ℕ) → bodiesRefusal c (suc k) j (offset c j) ≡ 0
+      → (polynomialRefusal c (offset c j) ▸ (4 when not (eqb (offset c (suc j)) (offset c j + size c (offset c j)))
+      ▸ bodiesRefusal c k (suc j) (offset c j + size c (offset c j)))) ≡ 0
+  unfolding bodiesRefusal
   step k j e = e
 
-  step-at : (k j : ℕ) → bodies c (suc k) j (offset c j) ≡ 0 → At j
+  step-at : (k j : ℕ) → bodiesRefusal c (suc k) j (offset c j) ≡ 0 → At j
   step-at k j e =
-      let b = then-none (polynomial c (offset c j)) _ (step k j e) in
-      (first-none _ _ (step k j e), is-equal _ _ (holds-not 3 (not (eqb (offset c (suc j)) (offset c j + size c (offset c j)))) (first-none _ _ b)))
+      let b = then-none (polynomialRefusal c (offset c j)) _ (step k j e) in (
+        first-none _ _ (step k j e),
+        is-equal _ _ (holds-not 3 (not (eqb (offset c (suc j)) (offset c j + size c (offset c j)))) (first-none _ _ b)),
+      )
 
-  step-rest : (k j : ℕ) → bodies c (suc k) j (offset c j) ≡ 0 → bodies c k (suc j) (offset c (suc j)) ≡ 0
+  step-rest : (k j : ℕ) → bodiesRefusal c (suc k) j (offset c j) ≡ 0 → bodiesRefusal c k (suc j) (offset c (suc j)) ≡ 0
   step-rest k j e =
-      let b = then-none (polynomial c (offset c j)) _ (step k j e) in
-      subst (λ (a : ℕ). bodies c k (suc j) a ≡ 0) (sym (step-at k j e .1))
+      let b = then-none (polynomialRefusal c (offset c j)) _ (step k j e) in
+      subst (λ (a : ℕ). bodiesRefusal c k (suc j) a ≡ 0) (sym (step-at k j e .1))
       (then-none (4 when not (eqb (offset c (suc j)) (offset c j + size c (offset c j)))) _ b)
 
-  each : (k j : ℕ) → bodies c k j (offset c j) ≡ 0 → (i : ℕ) → j ≤ i → i < j + k → At i
+  each : (k j : ℕ) → bodiesRefusal c k j (offset c j) ≡ 0 → (i : ℕ) → j ≤ i → i < j + k → At i
   each zero j e i l h = absurd (omega arith)
   each (suc k) j e i l h =
       ⊎-elim (λ w. subst At (w .0) (step-at k j e))
       (λ w. each k (suc j) (step-rest k j e) i (omega (arith, w .0)) (omega arith))
       (eq-cases j i)
 
-  at-last : (k j : ℕ) → bodies c k j (offset c j) ≡ 0 → last c (offset c (j + k)) ≡ 0
-  unfolding bodies
+  at-last : (k j : ℕ) → bodiesRefusal c k j (offset c j) ≡ 0 → pointsRefusal c (offset c (j + k)) ≡ 0
+  unfolding bodiesRefusal
   at-last zero j e = let z : j + 0 ≡ j = omega arith in rw z e
   at-last (suc k) j e = let z : j + suc k ≡ suc j + k = omega arith in rw z (at-last k (suc j) (step-rest k j e))
 
-  all : (k j : ℕ) → ((i : ℕ) → j ≤ i → i < j + k → At i) → last c (offset c (j + k)) ≡ 0 → bodies c k j (offset c j) ≡ 0
-  unfolding bodies
+  all : (k j : ℕ) → ((i : ℕ) → j ≤ i → i < j + k → At i) → pointsRefusal c (offset c (j + k)) ≡ 0 → bodiesRefusal c k j (offset c j) ≡ 0
+  unfolding bodiesRefusal
   all zero j f e = let z : j + 0 ≡ j = omega arith in rw z at e
   all (suc k) j f e =
       let a = f j (omega arith) (omega arith) in
@@ -64,21 +66,21 @@ module _ (c : List ℕ) where
       rw (a .0, eq-eqb _ _ (a .1), ← a .1) r
 
   -- ---- the points
-  full : (at : ℕ) → last c at ≡ 0 → length c ≡ at + points c
-  unfolding last
-  full at e = is-equal _ _ (holds-not 0 (not (eqb (length c) (at + points c))) (first-none _ _ e))
+  full : (at : ℕ) → pointsRefusal c at ≡ 0 → length c ≡ at + pointCount c
+  unfolding pointsRefusal
+  full at e = is-equal _ _ (holds-not 0 (not (eqb (length c) (at + pointCount c))) (first-none _ _ e))
 
-  right : (at : ℕ) → last c at ≡ 0 → (k : ℕ) → k < points c → wrong c at k ≡ false
-  unfolding last
+  right : (at : ℕ) → pointsRefusal c at ≡ 0 → (k : ℕ) → k < pointCount c → wrong c at k ≡ false
+  unfolding pointsRefusal
   right at e k h =
-      some-false (wrong c at) (points c)
-      (holds-not 5 (some (wrong c at) (points c)) (then-none (1 when not (eqb (length c) (at + points c))) _ e)) k h
+      some-false (wrong c at) (pointCount c)
+      (holds-not 5 (anyBelow (wrong c at) (pointCount c)) (then-none (1 when not (eqb (length c) (at + pointCount c))) _ e)) k h
 
   not-wrong : (at k : ℕ) → outside 100 (point c at k) ≡ false → falling c at k ≡ false → wrong c at k ≡ false
   not-wrong at k p q = or-false _ _ p q
 
   -- ---- the whole card
-  split : refusal c ≡ 0 → (header c ▸ bodies c (polynomials c) 0 (first c)) ≡ 0
+  split : refusal c ≡ 0 → (headerRefusal c ▸ bodiesRefusal c (polynomials c) 0 (bodiesAt c)) ≡ 0
   unfolding refusal
   split e = e
 
@@ -88,7 +90,7 @@ module _ (c : List ℕ) where
   pub sound : refusal c ≡ 0 → Sound c
   sound e =
       let h = sound-headed e in
-      let b : bodies c (polynomials c) 0 (offset c 0) ≡ 0 = rw (h .begins) (then-none (header c) _ (split e)) in
+      let b : bodiesRefusal c (polynomials c) 0 (offset c 0) ≡ 0 = rw (h .begins) (then-none (headerRefusal c) _ (split e)) in
       let z : 0 + polynomials c ≡ polynomials c = omega arith in
       let l = rw z at (at-last (polynomials c) 0 b) in
       let a = each (polynomials c) 0 b in
@@ -113,15 +115,16 @@ module _ (c : List ℕ) where
   unrefused s =
       let b = s .body 0 (s .s-least) in
       let w = b .small .whole in
-      let h : header c ≡ 0 =
+      let h : headerRefusal c ≡ 0 =
       sound-counts c (omega arith) (s .kind) (s .zero) (s .s-least) (s .s-most) (s .n-most)
       ∙ sound-contents c (omega (arith, s .begins)) (s .begins) in
       let z : 0 + polynomials c ≡ polynomials c = omega arith in
-      let l : last c (offset c (0 + polynomials c)) ≡ 0 =
-      rw z (good-points c (offset c (polynomials c)) (s .ends) (none-below (wrong c (offset c (polynomials c))) (points c) (fine s))) in
-      let r = all (polynomials c) 0 (λ i g k. (unrefused-polynomial c (offset c i) (s .body i (omega arith)), s .follows i (omega arith))) l in
+      let l : pointsRefusal c (offset c (0 + polynomials c)) ≡ 0 =
+      rw z (good-points c (offset c (polynomials c)) (s .ends) (none-below (wrong c (offset c (polynomials c))) (pointCount c) (fine s))) in
+      let r = all (polynomials c) 0
+      (λ i g k. (unrefused-polynomial c (offset c i) (s .body i (omega arith)), s .follows i (omega arith))) l in
       rw h (rw (s .begins) at r)
     where
-      fine : Sound c → (k : ℕ) → k < points c → wrong c (offset c (polynomials c)) k ≡ false
+      fine : Sound c → (k : ℕ) → k < pointCount c → wrong c (offset c (polynomials c)) k ≡ false
       fine s zero g = not-wrong _ zero (let m = s .limits zero g in omega int) refl
       fine s (suc k) g = not-wrong _ (suc k) (let m = s .limits (suc k) g in omega int) (let m = s .rising k g in omega int)

@@ -3,7 +3,7 @@ mod reader;
 
 ghost use mathlib.Core.Path.{_≡_};
 ghost use Prim.Native.Nat.{_+_};
-ghost use Rattle.card.specs.Answers.{reading, stretch, body, start, evaluated};
+ghost use Rattle.card.specs.Answers.{reading, stretch, body, start, valueAnswer};
 use refusals::NONE;
 
 // What a card holds: s polynomials and n points, or the number that refuses it.
@@ -42,7 +42,7 @@ pub fn read(card: &[u8]) -> Card
 pub fn locate(card: &[u8], j: usize) -> Stretch
     ensures { λ r. ⌜ r ≡ stretch (now (card .entry)) j ⌝ }
 {
-    let number = reader::place(card, j);
+    let number = reader::check_position(card, j);
     if number != NONE {
         return Stretch::Refused(number);
     }
@@ -57,7 +57,7 @@ pub fn locate(card: &[u8], j: usize) -> Stretch
 pub fn body(card: &[u8], j: usize) -> &[u8]
     ensures { λ r. ⌜ (now r ≡ body (now (card .entry)) j) × (r .ptr .0 ≡ card .entry .ptr .0) × (r .ptr .1 ≡ card .entry .ptr .1 + start (now (card .entry)) j) ⌝ }
 {
-    let number = reader::place(card, j);
+    let number = reader::check_position(card, j);
     if number != NONE {
         return &card[..0];
     }
@@ -68,12 +68,12 @@ pub fn body(card: &[u8], j: usize) -> &[u8]
 
 // The value of polynomial j at x. A refused card has its own number; then a position past the last polynomial has 14.
 pub fn value(card: &[u8], j: usize, x: i8) -> Evaluated
-    ensures { λ r. ⌜ r ≡ evaluated (now (card .entry)) j x ⌝ }
+    ensures { λ r. ⌜ r ≡ valueAnswer (now (card .entry)) j x ⌝ }
 {
-    let number = reader::place(card, j);
+    let number = reader::check_position(card, j);
     if number != NONE {
         return Evaluated::Refused(number);
     }
-    let p = layout::polynomial(card, layout::offset(card, j));
+    let p = layout::coefficients(card, layout::offset(card, j));
     Evaluated::Value(polynomials::evaluate(&p, x as i64))
 }

@@ -4,10 +4,10 @@ ghost use Prim.Native.Nat.{_+_, _≤_};
 ghost use lib.IntN.{pos, _+ℤ_};
 ghost use lib.ListN.{length};
 ghost use Rattle.refusals.specs.Limits.{mostCoefficient};
-ghost use Rattle.layout.specs.Format.{polynomials, points, first, two's};
+ghost use Rattle.layout.specs.Format.{polynomials, pointCount, bodiesAt, two's};
 ghost use Rattle.layout.specs.Body.{Whole};
-ghost use Rattle.card.specs.Card.{contents, header, last, coefficients, polynomial, bodies, refusal, place, outside};
-use layout::first;
+ghost use Rattle.card.specs.Card.{contentsRefusal, headerRefusal, pointsRefusal, coefficientsRefusal, polynomialRefusal, bodiesRefusal, refusal, positionRefusal, outside};
+use layout::bodies_at;
 use layout::offset;
 use layout::size;
 use layout::wide;
@@ -36,11 +36,11 @@ const LEAST_POINT: u8 = 128 - refusals::MOST_POINT; // with 128 added
 const MOST_POINT: u8 = 128 + refusals::MOST_POINT; // with 128 added
 
 // The contents, up to the first offset.
-fn contents(card: &[u8]) -> u16
+fn check_contents(card: &[u8]) -> u16
     requires { ⌜ 4 ≤ length (now card) ⌝ }
-    ensures { λ r. ⌜ r ≡ contents (now (card .entry)) ⌝ }
+    ensures { λ r. ⌜ r ≡ contentsRefusal (now (card .entry)) ⌝ }
 {
-    let begin = first(card);
+    let begin = bodies_at(card);
     if card.len() < begin {
         return WRONG_LENGTH;
     }
@@ -51,8 +51,8 @@ fn contents(card: &[u8]) -> u16
 }
 
 // The header and the contents.
-fn header(card: &[u8]) -> u16
-    ensures { λ r. ⌜ r ≡ header (now (card .entry)) ⌝ }
+fn check_header(card: &[u8]) -> u16
+    ensures { λ r. ⌜ r ≡ headerRefusal (now (card .entry)) ⌝ }
 {
     if card.len() < 4 {
         return WRONG_LENGTH;
@@ -72,7 +72,7 @@ fn header(card: &[u8]) -> u16
     if MOST_POINTS < card[2] {
         return WRONG_COUNT;
     }
-    contents(card)
+    check_contents(card)
 }
 
 // A coefficient outside its limits, by its four bytes.
@@ -86,9 +86,9 @@ fn too_large(word: u32) -> bool
 }
 
 // The coefficients of the polynomial whose body begins at byte at: each within its limits, and the top one not 0 unless it is the constant.
-fn coefficients(card: &[u8], at: usize) -> u16
+fn check_coefficients(card: &[u8], at: usize) -> u16
     requires { ⌜ Whole (now card) at ⌝ }
-    ensures { λ r. ⌜ r ≡ coefficients (now (card .entry)) at ⌝ }
+    ensures { λ r. ⌜ r ≡ coefficientsRefusal (now (card .entry)) at ⌝ }
 {
     let d = wide(card[at]);
     let mut top: u32 = 0;
@@ -109,8 +109,8 @@ fn coefficients(card: &[u8], at: usize) -> u16
 }
 
 // One polynomial, whose body begins at byte at.
-fn polynomial(card: &[u8], at: usize) -> u16
-    ensures { λ r. ⌜ r ≡ polynomial (now (card .entry)) at ⌝ }
+fn check_polynomial(card: &[u8], at: usize) -> u16
+    ensures { λ r. ⌜ r ≡ polynomialRefusal (now (card .entry)) at ⌝ }
 {
     if card.len() <= at {
         return WRONG_LENGTH;
@@ -121,7 +121,7 @@ fn polynomial(card: &[u8], at: usize) -> u16
     if card.len() < at + size(card, at) {
         return WRONG_LENGTH;
     }
-    coefficients(card, at)
+    check_coefficients(card, at)
 }
 
 // A signed byte with 128 added, so that the order of the bytes is the order of the points.
@@ -135,9 +135,9 @@ fn biased(b: u8) -> u8
 }
 
 // The points, which begin at byte at: each within its limits, none below the one before it.
-fn points(card: &[u8], at: usize) -> u16
-    requires { ⌜ (4 ≤ length (now card)) × (length (now card) ≡ at + points (now card)) ⌝ }
-    ensures { λ r. ⌜ r ≡ last (now (card .entry)) at ⌝ }
+fn check_points(card: &[u8], at: usize) -> u16
+    requires { ⌜ (4 ≤ length (now card)) × (length (now card) ≡ at + pointCount (now card)) ⌝ }
+    ensures { λ r. ⌜ r ≡ pointsRefusal (now (card .entry)) at ⌝ }
 {
     let n = wide(card[2]);
     let mut low = LEAST_POINT;
@@ -157,26 +157,26 @@ fn points(card: &[u8], at: usize) -> u16
 }
 
 // The bytes that are left, of which the points begin at byte at.
-fn last(card: &[u8], at: usize) -> u16
+fn check_rest(card: &[u8], at: usize) -> u16
     requires { ⌜ (4 ≤ length (now card)) × (at ≤ length (now card)) ⌝ }
-    ensures { λ r. ⌜ r ≡ last (now (card .entry)) at ⌝ }
+    ensures { λ r. ⌜ r ≡ pointsRefusal (now (card .entry)) at ⌝ }
 {
     if card.len() - at != wide(card[2]) {
         return WRONG_LENGTH;
     }
-    points(card, at)
+    check_points(card, at)
 }
 
 // The bodies, after a sound header: each polynomial and the offset after it, then the points.
-fn bodies(card: &[u8]) -> u16
-    requires { ⌜ header (now card) ≡ 0 ⌝ }
-    ensures { λ r. ⌜ r ≡ bodies (now (card .entry)) (polynomials (now (card .entry))) 0 (first (now (card .entry))) ⌝ }
+fn check_bodies(card: &[u8]) -> u16
+    requires { ⌜ headerRefusal (now card) ≡ 0 ⌝ }
+    ensures { λ r. ⌜ r ≡ bodiesRefusal (now (card .entry)) (polynomials (now (card .entry))) 0 (bodiesAt (now (card .entry))) ⌝ }
 {
     let s = wide(card[1]);
-    let mut at = first(card);
+    let mut at = bodies_at(card);
     let mut j = 0;
     while j < s {
-        let number = polynomial(card, at);
+        let number = check_polynomial(card, at);
         if number != NONE {
             return number;
         }
@@ -186,23 +186,23 @@ fn bodies(card: &[u8]) -> u16
             return WRONG_OFFSET;
         }
     }
-    last(card, at)
+    check_rest(card, at)
 }
 
 // The number of the first cause that refuses a card, or 0 where it is sound.
 pub fn refusal(card: &[u8]) -> u16
     ensures { λ r. ⌜ r ≡ refusal (now (card .entry)) ⌝ }
 {
-    let number = header(card);
+    let number = check_header(card);
     if number != NONE {
         return number;
     }
-    bodies(card)
+    check_bodies(card)
 }
 
 // The number that refuses a card or position j of a polynomial on it, or 0.
-pub fn place(card: &[u8], j: usize) -> u16
-    ensures { λ r. ⌜ r ≡ place (now (card .entry)) j ⌝ }
+pub fn check_position(card: &[u8], j: usize) -> u16
+    ensures { λ r. ⌜ r ≡ positionRefusal (now (card .entry)) j ⌝ }
 {
     let number = refusal(card);
     if number != NONE {

@@ -9,7 +9,7 @@ use card::Card;
 use card::Evaluated;
 use card::Stretch;
 use libc::STDOUT_FILENO;
-use query::Answer;
+use query::Queried;
 use signs::Product;
 use test_input::pair;
 use test_input::wide;
@@ -107,10 +107,10 @@ fn print_card(card: &[u8]) {
 }
 
 // The answer of a query: its number, or R and the number that refuses it.
-fn print_answer(answer: Answer) {
+fn print_answer(answer: Queried) {
     match answer {
-        Answer::Number(sum) => print_signed(sum),
-        Answer::Refused(number) => {
+        Queried::Number(sum) => print_signed(sum),
+        Queried::Refused(number) => {
             put(b' ');
             put(b'R');
             print_number(number as u64);

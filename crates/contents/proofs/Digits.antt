@@ -11,7 +11,7 @@ use lib.Arith.{digits-div, digits-mod, mod-mul}
 use lib.IntN.{ℤ, pos, _*ℤ_}
 use Rattle.integers.proofs.Tests.{eq-cases}
 use Rattle.integers.specs.Powers.{power}
-use Rattle.signs.specs.Signs.{sign-digit}
+use Rattle.signs.specs.Signs.{signDigit}
 use Rattle.signs.proofs.Digits.{top, low, digits}
 use Rattle.signs.proofs.SignDigits.{digit-small}
 use Rattle.contents.specs.Contents.{productTo, patternTo}
@@ -62,11 +62,11 @@ module _ (v : ℕ → ℤ) where
       ap₂ _*ℤ_ (ap (power (v s)) (sym (digit-top α s h)))
       (product-digits s (α % 3 ^ s) (mod-lt α (positive s)) ∙ prodTo-ext _ _ s (λ j g. ap (power (v j)) (digit-low α s j g)))
 
-  pub pattern-digits : (s j : ℕ) → j < s → patternTo v s / 3 ^ j % 3 ≡ sign-digit (v j)
+  pub pattern-digits : (s j : ℕ) → j < s → patternTo v s / 3 ^ j % 3 ≡ signDigit (v j)
   unfolding patternTo
   pattern-digits zero j h = absurd (omega arith)
   pattern-digits (suc s) j h =
-      let d = sign-digit (v s) in
+      let d = signDigit (v s) in
       let b = pattern-below v s in
       ⊎-elim (λ w. rw (w .0, top s d b) (mod-eq-of-lt (digit-small (v s))))
       (λ w. let g : j < s = omega (arith, w .0) in

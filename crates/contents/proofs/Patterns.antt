@@ -14,7 +14,7 @@ use Rattle.integers.proofs.Abs.{abs-sum}
 use Rattle.integers.proofs.Sums.{sum-map-ext}
 use Rattle.signs.specs.Lists.{Below}
 use Rattle.integers.specs.Powers.{power}
-use Rattle.signs.specs.Signs.{sign, query, sign-digit}
+use Rattle.signs.specs.Signs.{sign, query, signDigit}
 use Rattle.signs.proofs.Digits.{top, low}
 use Rattle.signs.proofs.SignDigits.{digit-sign, digit-small}
 use Rattle.contents.specs.Contents.{Contents, productTo, patternTo, valuesAt, productValue, queryIn, patternAt, patternsIn}
@@ -25,7 +25,7 @@ module _ (v : ℕ → ℤ) where
   pub pattern-below : (s : ℕ) → patternTo v s < 3 ^ s
   unfolding patternTo
   pattern-below zero = omega arith
-  pattern-below (suc s) = go (sign-digit (v s)) (digit-small (v s)) (pattern-below s)
+  pattern-below (suc s) = go (signDigit (v s)) (digit-small (v s)) (pattern-below s)
     where
       go : (d : ℕ) → d < 3 → patternTo v s < 3 ^ s → patternTo v s + d * 3 ^ s < 3 ^ suc s
       go zero h b = omega (arith, pow-suc 3 s)
@@ -47,7 +47,7 @@ sgn-product v (suc s) α =
     let b = pattern-below v s in
     sgn-* (power (v s) (α / 3 ^ s)) (productTo v s (α % 3 ^ s))
     ∙ ap₂ _*ℤ_ (sgn-power (v s) (α / 3 ^ s) ∙ ap (λ (x : ℤ). power x (α / 3 ^ s)) (sym (digit-sign (v s)))) (sgn-product v s (α % 3 ^ s))
-    ∙ sym (rw (top s (sign-digit (v s)) b, low s (sign-digit (v s)) b) refl)
+    ∙ sym (rw (top s (signDigit (v s)) b, low s (signDigit (v s)) b) refl)
 
 -- ---- all points
 

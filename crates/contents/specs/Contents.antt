@@ -17,7 +17,7 @@ use lib.IntN.{ℤ, pos, _*ℤ_}
 use Rattle.integers.specs.Sign.{sgnℤ}
 use Rattle.integers.specs.Sums.{sumℤ}
 use Rattle.integers.specs.Powers.{power}
-use Rattle.signs.specs.Signs.{sign-digit}
+use Rattle.signs.specs.Signs.{signDigit}
 
 pub record Contents (X : Type 0) : Type 0 where
   pub s : ℕ  -- how many polynomials
@@ -32,7 +32,7 @@ productTo v (suc s) α = power (v s) (α / 3 ^ s) *ℤ productTo v s (α % 3 ^ s
 
 unfoldable pub patternTo : (ℕ → ℤ) → ℕ → ℕ
 patternTo v zero = 0
-patternTo v (suc s) = patternTo v s + sign-digit (v s) * 3 ^ s
+patternTo v (suc s) = patternTo v s + signDigit (v s) * 3 ^ s
 
 -- ---- the contents
 

@@ -14,7 +14,7 @@ use Rattle.rounds.specs.Rows.{Oracle, IsRealized}
 use Rattle.rounds.specs.RoundEnd.{roundRows}
 use Rattle.rounds.proofs.Realized.{realized-true}
 use Rattle.runs.specs.Run.{State, finished, startOf, answerOf}
-use Rattle.runs.specs.Demand.{Call, answer, play}
+use Rattle.runs.specs.Demand.{Call, answer, stateAfter}
 use Rattle.runs.specs.Truthful.{truthful, onward, enough}
 use Rattle.runs.proofs.Truthful.{truthful-done}
 use Rattle.contents_runs.specs.Runs.{answeredBy, runOn, rowsIn}
@@ -36,7 +36,7 @@ module _ {X : Type 0} (K : Contents X) where
   pub contents-done : 1 ≤ K .s → length (K .points) ≤ mostPoints → (k : ℕ) → enough (K .s) ≤ k
       → (runOn K k .phase ≡ finished) × (runOn K k .rows ≡ rowsIn K)
   contents-done h m k e =
-      subst (λ (calls : List Call). let r = play roundRows (startOf (K .s)) calls in (r .phase ≡ finished) × (r .rows ≡ rowsIn K))
+      subst (λ (calls : List Call). let r = stateAfter roundRows (startOf (K .s)) calls in (r .phase ≡ finished) × (r .rows ≡ rowsIn K))
       (truthful-answers (K .s) (patternsIn K) k (startOf (K .s)) 0
       ∙ ap (λ (q : ℕ → ℤ). answeredBy q k (startOf (K .s)) 0) (fun-ext (λ α. sym (query-patterns K α))))
       (truthful-done (K .s) (patternsIn K) h (oracle m) k e)

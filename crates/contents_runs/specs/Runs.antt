@@ -11,7 +11,7 @@ use Rattle.contents.specs.Contents.{Contents, queryIn, patternsIn}
 use Rattle.rounds.specs.Rows.{Row, realized}
 use Rattle.rounds.specs.RoundEnd.{roundRows}
 use Rattle.runs.specs.Run.{State, startOf, answerOf}
-use Rattle.runs.specs.Demand.{Call, answer, play}
+use Rattle.runs.specs.Demand.{Call, answer, stateAfter}
 use Rattle.runs.specs.Truthful.{onward}
 
 unfoldable pub answeredBy : (ℕ → ℤ) → ℕ → State → ℕ → List Call
@@ -20,7 +20,7 @@ answeredBy q (suc k) r α = answer (q α) ∷ onward (answerOf roundRows r (q α
 
 module _ {X : Type 0} where
   abbrev pub runOn : Contents X → ℕ → State
-  runOn K k = play roundRows (startOf (K .s)) (answeredBy (queryIn K) k (startOf (K .s)) 0)
+  runOn K k = stateAfter roundRows (startOf (K .s)) (answeredBy (queryIn K) k (startOf (K .s)) 0)
 
   abbrev pub rowsIn : Contents X → List Row
   rowsIn K = realized (K .s) (patternsIn K)

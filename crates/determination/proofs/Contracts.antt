@@ -1,5 +1,5 @@
--- DEMAND 3 of the code: the five calls are known by their contracts alone (`Learnt`: what a call promises of its arguments, its result and what it
--- leaves in lent memory), so that a weaker promise of any of them breaks the theorem.
+-- DEMAND 3 of the code: the five calls are known by their contracts alone (`Learnt`: what a call promises of its arguments, its result and
+-- what it leaves in lent memory), so that a weaker promise of any of them breaks the theorem.
 use mathlib.Core.Path.{_≡_, ap, ap₂, _∙_}
 use mathlib.Core.List.{List, _∷_}
 use Prim.Native.Nat.{ℕ, _≤_}
@@ -44,13 +44,17 @@ pub record Fetches (c : Run) (p : ℕ) (x : Fetch) : Type 0 where
 keeps-starts : (s : ℕ) (c : Run) (x : Step) → 1 ≤ s → s ≤ mostPolynomials → Started s c x → (stateOf c ≡ startOf s) × (x ≡ ask 0)
 unfolding startedOf
 keeps-starts s c x h m u =
-    let e : _≡_ {A = State × Step} (stateOf (u .result .run), stepOf (u .result .step)) (startOf s, ask 0) = (rw (le-leb 1 s h, le-leb s mostPolynomials m) at (u .kept)) in
+    let e : _≡_ {A = State × Step} (stateOf (u .result .run), stepOf (u .result .step))
+    (startOf s, ask 0) = (rw (le-leb 1 s h, le-leb s mostPolynomials m) at (u .kept)) in
     (ap stateOf (u .left) ∙ ap (λ (p : State × Step). p .0) e, u .gave ∙ ap (λ (p : State × Step). p .1) e)
 
 keeps-answers : (c : Run) (z : ℤ) (c′ : Run) (x : Step) → Took c z c′ x
     → (stateOf c′ ≡ answerOf roundRows (stateOf c) z .0) × (x ≡ answerOf roundRows (stateOf c) z .1)
-keeps-answers c z c′ x u =
-    (ap stateOf (u .left) ∙ ap (λ (p : State × Step). p .0) (u .kept .by-rules), u .gave ∙ ap (λ (p : State × Step). p .1) (u .kept .by-rules))
+keeps-answers c z c′ x u = (
+  ap stateOf (u .left) ∙ ap (λ (p : State × Step). p .0) (u .kept .by-rules),
+  u .gave
+      ∙ ap (λ (p : State × Step). p .1) (u .kept .by-rules),
+)
 
 keeps-fetches : (c : Run) (p : ℕ) (x : Fetch) → Fetches c p x → x ≡ fetchOf (stateOf c) p
 keeps-fetches c p x u = u .gave ∙ u .kept
@@ -66,7 +70,7 @@ pub record Copies (c : Run) (a b : List ℕ) (x : Copy) : Type 0 where
   pub kept : copy.Learnt lifetimes (c, (patterns, (counts, tt))) result (c, (patterns′, (counts′, tt)))
   pub lent-patterns : now patterns ≡ a
   pub lent-counts : now counts ≡ b
-  pub gave : x ≡ record { result = copiedOf result; patterns-left = now patterns′; counts-left = now counts′ }
+  pub gave : x ≡ record { result = copiedOf result; patternsLeft = now patterns′; countsLeft = now counts′ }
 
 keeps-copies : (c : Run) (a b : List ℕ) (x : Copy) → Copies c a b x → x ≡ copyOf (stateOf c) a b
 keeps-copies c a b x u = u .gave ∙ u .kept ∙ ap₂ (λ (p q : List ℕ). copyOf (stateOf c) p q) (u .lent-patterns) (u .lent-counts)
@@ -75,7 +79,8 @@ keeps-copies c a b x u = u .gave ∙ u .kept ∙ ap₂ (λ (p q : List ℕ). cop
 kept : Keeps Run stateOf Started Took Fetches Copies
 kept = record { starts = keeps-starts; answers = keeps-answers; fetches = keeps-fetches; copies = keeps-copies }
 
--- a list of answers, row fetches and row copies after a start with s from 1 to 8, in which each call gets the record as the one before left it
+-- a list of answers, row fetches and row copies after a start with s from 1 to 8, in which each call gets the record as the one before left
+-- it
 abbrev pub Calls : ℕ → List Call → List Event → Run → Type 0
 Calls s cs t d = FromStart Run stateOf Started Took Fetches Copies s cs t d
 

@@ -12,8 +12,10 @@ use base.Fml.{Lft, Share, Fml, ftrue, flft}
 use prog.Wp.{Heap, Calls, Loops, WpFn, Tables}
 use ghost.Atoms.{Atoms}
 use contract.Monad.{fact}
-use types.Kit.{Given, ‵, raw, _⊛_, ⋆, _$_, _∵_, !, qed, by, move, keep, drop, use0, use1, split, join, fsplit, fsplit3, fjoin, suffices, frame, done}
-use types.Run.{look, look-raw, init, forget, stop, hop, from, load, of-opd, and-then, no-more, assigns, land, returns, enter, alloc1, alloc0, params1, pass1, pass0, free1, free0}
+use types.Kit.{Given, ‵, raw, _⊛_, ⋆, _$_, _∵_, !, qed, by, move, keep, drop, use0, use1, split, join, fsplit, fsplit3, fjoin, suffices}
+use types.Kit.{frame, done}
+use types.Run.{look, look-raw, init, forget, stop, hop, from, load, of-opd, and-then, no-more, assigns, land, returns, enter, alloc1}
+use types.Run.{alloc0, params1, pass1, pass0, free1, free0}
 use sound.WpLaws.{FmC, fmOf, WpFn-mono}
 use denote.RattleType.{owns}
 use denote.Memory.{pointee}
@@ -123,7 +125,8 @@ module _ (d : Piece) (e : Passed) (r : Piece) (f : Name) (φ : d .lone .Denot �
       walk : ent 𝓤 (onEntry 𝓤 H A sig (κ, tt) (q, tt) (x, (z, tt)) at) (WpFn 𝓤 H C Λ reading (vptr b o ∷ e .val z ∷ []) Post)
       walk =
           qed W ((‵ (flft κ q) ⊛ ‵ ftrue) ∷ ‵ (owns (ShrRef (named 0) κ (D .row) ∷ E .row ∷ []) (x, (z, tt)) at) ∷ []) ∵
-          -- a `&` is Copy: what it owns is had twice, one copy is kept whole for the exit, and of the other only the fractured borrow is kept
+          -- a `&` is Copy: what it owns is had twice, one copy is kept whole for the exit, and of the other only the fractured borrow is
+          -- kept
           split ! $ move ! (2 ∷ []) $ fsplit ! $ use1 W (‵ Ref ⊛ ‵ Ref) (shr-copy 𝓤 H A W (named 0) κ (D .row) .twice x (vptr b o ∷ [])) $
           split ! $ fsplit3 ! $ drop ! $ drop ! $ keep ! (0 ∷ 3 ∷ 1 ∷ []) $
           -- [the fractured borrow; the token; what the reference owns]

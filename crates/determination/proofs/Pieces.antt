@@ -1,9 +1,9 @@
 -- The types that the walk of a thin function computes with, written out.
 --
---   Lone, rowOf    == a type of plain data with one machine value, its row taken apart, and the row
---   apart          == the parts of a row
---   still L        == L as the type of a parameter that is passed by value: it is at exit what it was
---   Known L val    == what a walk asks of L, whose machine value is val: see `Data`
+--   Lone, rowOf         == a type of plain data with one machine value, its row taken apart, and the row
+--   apart               == the parts of a row
+--   still L             == L as the type of a parameter that is passed by value: it is at exit what it was
+--   Known L val         == what a walk asks of L, whose machine value is val: see `Data`
 --   Piece, Passed, Pair == such a type; one that is passed by value; and a struct of two such types, with its two fields
 use mathlib.Core.List.{List, [], _∷_}
 use mir.Syntax.{Ty, Sym, Width, Written, tyStruct, tcons, tnil}

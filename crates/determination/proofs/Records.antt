@@ -16,18 +16,21 @@ use Rattle.rounds.specs.RoundEnd.{roundRows}
 use Rattle.runs.specs.Run.{State, Phase, running, finished, closed, Step, refused, answerOf}
 use Rattle.runs.proofs.Steps.{answer-finished, answer-closed, not-late}
 use Rattle.run_parts.specs.Parts.{inLimits}
-use Rattle.determination.specs.Record.{goes-on, is-done, mostAsked, isSound, isRunning, isDone, stateIn, runningState, runPhase, stateOf, AnswerGives}
+use Rattle.determination.specs.Record.{runningPhase, donePhase, mostAsked, isSound, isRunning, isDone, stateIn, runningState}
+use Rattle.determination.specs.Record.{runPhase, stateOf, AnswerGives}
 use Rattle.determination.specs.declared.Run.{Run}
 
 abbrev place : ℕ → ℕ → ℕ → ℕ → Bool
-place asked round rows answered = cond (eqb round 0) (eqb answered 0 && eqb asked 0) (ltb answered (2 * rows) && leb asked (128 * round + answered))
+place asked round rows answered =
+    cond (eqb round 0) (eqb answered 0 && eqb asked 0) (ltb answered (2 * rows) && leb asked (128 * round + answered))
 
 place-first : (asked round rows answered : ℕ) → round ≡ 0 → place asked round rows answered ≡ true → (answered ≡ 0) × (asked ≡ 0)
 place-first asked round rows answered e t =
     let k : eqb answered 0 && eqb asked 0 ≡ true = rw (eq-eqb round 0 e) at t in
     (eqb-true answered 0 (both-left (eqb answered 0) (eqb asked 0) k), eqb-true asked 0 (both-right (eqb answered 0) (eqb asked 0) k))
 
-place-later : (asked round rows answered : ℕ) → 0 < round → place asked round rows answered ≡ true → (answered < 2 * rows) × (asked ≤ 128 * round + answered)
+place-later : (asked round rows answered : ℕ) → 0 < round → place asked round rows answered ≡ true → (answered < 2 * rows)
+    × (asked ≤ 128 * round + answered)
 place-later asked round rows answered h t =
     let k : ltb answered (2 * rows) && leb asked (128 * round + answered) ≡ true = rw (ne-eqb round 0 (λ e. omega arith)) at t in (
       ltb-true answered (2 * rows) (both-left (ltb answered (2 * rows)) (leb asked (128 * round + answered)) k),
@@ -51,7 +54,8 @@ pub record Limits (s asked round points rows answered : ℕ) : Type 0 where
   pub at-later : 0 < round → answered < 2 * rows
   pub few-asked : asked ≤ 128 * round + answered
 
-pub limits-from : (s asked round points rows answered : ℕ) → inLimits s asked round points rows answered ≡ true → Limits s asked round points rows answered
+pub limits-from : (s asked round points rows answered : ℕ) → inLimits s asked round points rows answered ≡ true
+    → Limits s asked round points rows answered
 unfolding inLimits
 limits-from s asked round points rows answered e =
     let e₁ = both-right (leb 1 s) _ e in
@@ -109,7 +113,8 @@ unfolding isSound
 sound-to r h e b =
     rw (e, ne-eqb (r .round) 0 (λ z. omega arith), below-test (3 ^ (r .round - 1)) (take (r .rows) (r .products)) b) refl
 
-pub first-sound : (r : Run) (s : ℕ) → 1 ≤ s → s ≤ 8 → r .polynomials ≡ s → r .asked ≡ 0 → r .round ≡ 0 → r .n ≡ 0 → r .rows ≡ 0 → r .answered ≡ 0
+pub first-sound : (r : Run) (s : ℕ) → 1 ≤ s → s ≤ 8 → r .polynomials ≡ s → r .asked ≡ 0 → r .round ≡ 0 → r .n ≡ 0 → r .rows ≡ 0
+    → r .answered ≡ 0
     → isSound r ≡ true
 unfolding isSound
 first-sound r s g h e₁ e₂ e₃ e₄ e₅ e₆ =
@@ -127,17 +132,17 @@ sound-asked r e = go (ℕ-discrete (r .round) 0) (sound-limits r e)
 -- ---- what a record stands for
 
 -- a record whose run goes on
-pub running-phase : (r : Run) → isRunning r ≡ true → r .phase ≡ goes-on
+pub running-phase : (r : Run) → isRunning r ≡ true → r .phase ≡ runningPhase
 unfolding isRunning
-running-phase r e = eqb-true (r .phase) goes-on (both-left (eqb (r .phase) goes-on) (isSound r) e)
+running-phase r e = eqb-true (r .phase) runningPhase (both-left (eqb (r .phase) runningPhase) (isSound r) e)
 
 pub running-sound : (r : Run) → isRunning r ≡ true → isSound r ≡ true
 unfolding isRunning
-running-sound r e = both-right (eqb (r .phase) goes-on) (isSound r) e
+running-sound r e = both-right (eqb (r .phase) runningPhase) (isSound r) e
 
-pub running-to : (r : Run) → r .phase ≡ goes-on → isSound r ≡ true → isRunning r ≡ true
+pub running-to : (r : Run) → r .phase ≡ runningPhase → isSound r ≡ true → isRunning r ≡ true
 unfolding isRunning
-running-to r p e = rw (eq-eqb (r .phase) goes-on p, e) refl
+running-to r p e = rw (eq-eqb (r .phase) runningPhase p, e) refl
 
 -- the phase gives what the record stands for
 phase-is : (r : Run) (f : Phase) → runPhase r ≡ f → stateOf r ≡ stateIn f r
@@ -149,16 +154,16 @@ unfolding runPhase
 running-is r e = phase-is r running (rw e refl)
 
 -- a record that is done
-pub done-phase : (r : Run) → isDone r ≡ true → (r .phase ≡ is-done) × (r .rows ≤ 64)
+pub done-phase : (r : Run) → isDone r ≡ true → (r .phase ≡ donePhase) × (r .rows ≤ 64)
 unfolding isDone
 done-phase r e = (
-  eqb-true (r .phase) is-done (both-left (eqb (r .phase) is-done) (leb (r .rows) mostPoints) e),
-  leb-true (r .rows) 64 (both-right (eqb (r .phase) is-done) (leb (r .rows) mostPoints) e),
+  eqb-true (r .phase) donePhase (both-left (eqb (r .phase) donePhase) (leb (r .rows) mostPoints) e),
+  leb-true (r .rows) 64 (both-right (eqb (r .phase) donePhase) (leb (r .rows) mostPoints) e),
 )
 
-not-running : (r : Run) → (r .phase ≡ goes-on → ⊥) → isRunning r ≡ false
+not-running : (r : Run) → (r .phase ≡ runningPhase → ⊥) → isRunning r ≡ false
 unfolding isRunning
-not-running r h = rw (ne-eqb (r .phase) goes-on h) refl
+not-running r h = rw (ne-eqb (r .phase) runningPhase h) refl
 
 pub done-is : (r : Run) → isDone r ≡ true → stateOf r ≡ stateIn finished r
 unfolding runPhase
@@ -169,9 +174,9 @@ pub closed-is : (r : Run) → isRunning r ≡ false → isDone r ≡ false → s
 unfolding runPhase
 closed-is r e f = phase-is r closed (rw (e, f) refl)
 
-not-done : (r : Run) → (r .phase ≡ is-done → ⊥) → isDone r ≡ false
+not-done : (r : Run) → (r .phase ≡ donePhase → ⊥) → isDone r ≡ false
 unfolding isDone
-not-done r h = rw (ne-eqb (r .phase) is-done h) refl
+not-done r h = rw (ne-eqb (r .phase) donePhase h) refl
 
 pub closed-phase : (r : Run) → r .phase ≡ 2 → stateOf r ≡ stateIn closed r
 closed-phase r p = closed-is r (not-running r (λ z. omega (arith, z, p))) (not-done r (λ z. omega (arith, z, p)))
@@ -179,7 +184,8 @@ closed-phase r p = closed-is r (not-running r (λ z. omega (arith, z, p))) (not-
 -- ---- what an answer promises
 
 -- of a run that goes on: the rules never refuse it with 7
-pub running-gives : (r r′ : Run) (z : ℤ) (x : Step) → isRunning r ≡ true → (stateOf r′, x) ≡ answerOf roundRows (runningState r) z → AnswerGives r z r′ x
+pub running-gives : (r r′ : Run) (z : ℤ) (x : Step) → isRunning r ≡ true → (stateOf r′, x) ≡ answerOf roundRows (runningState r) z
+    → AnswerGives r z r′ x
 running-gives r r′ z x e h =
     record {
       by-rules = rw (running-is r e) h;
@@ -224,7 +230,8 @@ pub test-limits : (r : Run) → inLimits (r .polynomials) (r .asked) (r .round) 
 unfolding isSound
 test-limits r e = rw e refl
 
-pub test-first : (r : Run) → inLimits (r .polynomials) (r .asked) (r .round) (r .n) (r .rows) (r .answered) ≡ true → r .round ≡ 0 → true ≡ isSound r
+pub test-first : (r : Run) → inLimits (r .polynomials) (r .asked) (r .round) (r .n) (r .rows) (r .answered) ≡ true → r .round ≡ 0 → true
+    ≡ isSound r
 unfolding isSound
 test-first r e z = rw (e, eq-eqb (r .round) 0 z) refl
 
@@ -233,16 +240,16 @@ pub test-later : (r : Run) → inLimits (r .polynomials) (r .asked) (r .round) (
 unfolding isSound
 test-later r e z = rw (e, ne-eqb (r .round) 0 z) refl
 
-pub test-phase : (r : Run) → (r .phase ≡ goes-on → ⊥) → false ≡ isRunning r
+pub test-phase : (r : Run) → (r .phase ≡ runningPhase → ⊥) → false ≡ isRunning r
 test-phase r h = sym (not-running r h)
 
-pub test-running : (r : Run) → r .phase ≡ goes-on → isSound r ≡ isRunning r
+pub test-running : (r : Run) → r .phase ≡ runningPhase → isSound r ≡ isRunning r
 unfolding isRunning
-test-running r p = rw (eq-eqb (r .phase) goes-on p) refl
+test-running r p = rw (eq-eqb (r .phase) runningPhase p) refl
 
-pub test-not-done : (r : Run) → (r .phase ≡ is-done → ⊥) → false ≡ isDone r
+pub test-not-done : (r : Run) → (r .phase ≡ donePhase → ⊥) → false ≡ isDone r
 test-not-done r h = sym (not-done r h)
 
-pub test-done : (r : Run) → r .phase ≡ is-done → leb (r .rows) 64 ≡ isDone r
+pub test-done : (r : Run) → r .phase ≡ donePhase → leb (r .rows) 64 ≡ isDone r
 unfolding isDone
-test-done r p = rw (eq-eqb (r .phase) is-done p) refl
+test-done r p = rw (eq-eqb (r .phase) donePhase p) refl

@@ -16,18 +16,19 @@ use Rattle.signs.specs.Adapted.{adapted}
 use Rattle.signs.proofs.Blocks.{adapted-below}
 use Rattle.rounds.specs.Rows.{Row, patterns, counts, rowsWith}
 use Rattle.rounds.specs.RoundEnd.{roundRows}
-use Rattle.round_end.specs.Outcome.{Left}
-use Rattle.round_end.specs.declared.Next.{Next}
+use Rattle.run_round_end.specs.Outcome.{Left}
+use Rattle.run_round_end.specs.declared.Next.{Next}
 use Rattle.rounds.proofs.RowLaws.{length-patterns}
-use Rattle.runs.specs.Run.{State, Step, ask, productAt, ended, goOn}
+use Rattle.runs.specs.Run.{State, Step, ask, roundProduct, ended, roundStep}
 use Rattle.run_parts.specs.Parts.{heldRows}
 use Rattle.run_parts.specs.declared.Rows.{Rows}
-use Rattle.determination.specs.Record.{goes-on, isSound, isRunning, runningState, stateOf}
+use Rattle.determination.specs.Record.{runningPhase, isSound, isRunning, runningState, stateOf}
 use Rattle.determination.specs.declared.Run.{Run}
 use Rattle.runs.proofs.Held.{with-patterns, with-own, stored, below-all}
 use Rattle.determination.proofs.Lengths.{Lengths}
-use Rattle.determination.proofs.Records.{later-from, sound-below, sound-to, limits-to, running-is, running-to, running-phase, running-sound}
-use Rattle.round_end.specs.declared.Next.the-variants as next
+use Rattle.determination.proofs.Records.{later-from, sound-below, sound-to, limits-to, running-is, running-to, running-phase}
+use Rattle.determination.proofs.Records.{running-sound}
+use Rattle.run_round_end.specs.declared.Next.the-variants as next
 
 -- a record as the code leaves it after an answer to a run that goes on
 abbrev counted : Run → ℕ → ℕ → Rows → List ℕ → ℕ → List ℤ → Run
@@ -67,12 +68,13 @@ module _ (r : Run) (a : ℤ) (n : Lengths r) (e : isRunning r ≡ true) (later :
   went-sound =
       let k = later-from r e later in
       sound-to (wentOn r a) later
-      (limits-to (r .polynomials) (r .asked + 1) (r .round) (r .n) (r .rows) (r .answered + 1) later (k .rounds) (k .most) (k .few-points) (k .few-rows) more (omega arith))
+      (limits-to (r .polynomials) (r .asked + 1) (r .round) (r .n) (r .rows) (r .answered + 1) later (k .rounds) (k .most) (k .few-points)
+      (k .few-rows) more (omega arith))
       (sound-below r (running-sound r e) later)
 
-  pub went-on : (p : ℕ) → p ≡ productAt (r .round - 1) (take (r .rows) (r .products)) (r .answered + 1)
+  pub went-on : (p : ℕ) → p ≡ roundProduct (r .round - 1) (take (r .rows) (r .products)) (r .answered + 1)
       → _≡_ {A = State × Step} (stateOf (wentOn r a), ask p)
-      (goOn roundRows (runningState r) (r .round - 1) (take (r .answered) (r .answers) ++ (a ∷ [])) true)
+      (roundStep roundRows (runningState r) (r .round - 1) (take (r .answered) (r .answers) ++ (a ∷ [])) true)
   went-on p q =
       let k = later-from r e later in
       let h : r .answered < length (r .answers) = omega arith in
@@ -88,20 +90,24 @@ module _ (r : Run) (a : ℤ) (n : Lengths r) (e : isRunning r ≡ true) (later :
 abbrev begunRun : Run → ℕ → ℕ → Rows → List ℕ → Run
 begunRun r i points h products = counted r (i + 1) points h products 0 (r .answers)
 
-module _ (r : Run) (i points : ℕ) (h : Rows) (A : List ℕ) (P : length (h .patterns) ≡ 64) (C : length (h .counts) ≡ 64) (going : r .phase ≡ goes-on) (before : i < r .polynomials)
-    (most : r .polynomials ≤ 8) (few-points : points ≤ 64) (few-asked : r .asked < 128 * suc i) (some-rows : 0 < h .number) (few-rows : h .number ≤ 64)
+module _ (r : Run) (i points : ℕ) (h : Rows) (A : List ℕ) (P : length (h .patterns) ≡ 64) (C : length (h .counts) ≡ 64)
+    (going : r .phase ≡ runningPhase) (before : i < r .polynomials)
+    (most : r .polynomials ≤ 8) (few-points : points ≤ 64) (few-asked : r .asked < 128 * suc i) (some-rows : 0 < h .number)
+    (few-rows : h .number ≤ 64)
     (list : take (h .number) A ≡ adapted i (take (h .number) (h .patterns))) where
   pub list-below : Below (3 ^ i) (take (h .number) A)
-  list-below = rw list (below-all (3 ^ i) (adapted i (take (h .number) (h .patterns))) (λ α g. adapted-below i α (take (h .number) (h .patterns)) g))
+  list-below =
+      rw list (below-all (3 ^ i) (adapted i (take (h .number) (h .patterns))) (λ α g. adapted-below i α (take (h .number) (h .patterns)) g))
 
   begun-sound : isSound (begunRun r i points h A) ≡ true
   begun-sound =
       let e : i + 1 - 1 ≡ i = omega arith in
       sound-to (begunRun r i points h A) (omega arith)
-      (limits-to (r .polynomials) (r .asked + 1) (i + 1) points (h .number) 0 (omega arith) (omega arith) most few-points few-rows (omega arith) (omega arith))
+      (limits-to (r .polynomials) (r .asked + 1) (i + 1) points (h .number) 0 (omega arith) (omega arith) most few-points few-rows
+      (omega arith) (omega arith))
       (subst (λ (j : ℕ). Below (3 ^ j) (take (h .number) A)) (sym e) list-below)
 
-  pub begun : (p : ℕ) → p ≡ productAt i (take (h .number) A) 0
+  pub begun : (p : ℕ) → p ≡ roundProduct i (take (h .number) A) 0
       → _≡_ {A = State × Step} (stateOf (begunRun r i points h A), ask p) (ended roundRows (runningState r) i points (heldRows h) false)
   begun p q =
       let e₀ = running-is (begunRun r i points h A) (running-to (begunRun r i points h A) going begun-sound) in

@@ -9,7 +9,7 @@ use lib.ListN.{length, getD, take, drop}
 use lib.Seq.{length-take-le, getD-take}
 use Rattle.refusals.specs.Numbers.{late, pastLast, tooShort}
 use Rattle.rounds.specs.Rows.{Row, rowsWith}
-use Rattle.runs.specs.Run.{Phase, running, finished, closed, row, no-row, copied, kept, fetchOf, fetchRule, copyOf, copyRule}
+use Rattle.runs.specs.Run.{Phase, running, finished, closed, row, noRow, copied, kept, fetchOf, fetchRule, copyOf, copyRule}
 use Rattle.determination.specs.Record.{isRunning, isDone, stateIn, runPhase, stateOf}
 use Rattle.determination.specs.declared.Run.{Run}
 use Rattle.runs.proofs.Phases.{running-not-finished, closed-not-finished}
@@ -30,13 +30,13 @@ not-finished r e = rw e (go (isRunning r))
     go true z = running-not-finished z
     go false z = closed-not-finished z
 
-no-fetch : (f : Phase) (R : List Row) (p : ℕ) → (f ≡ finished → ⊥) → no-row late ≡ fetchRule f R p
+no-fetch : (f : Phase) (R : List Row) (p : ℕ) → (f ≡ finished → ⊥) → noRow late ≡ fetchRule f R p
 unfolding fetchRule
 no-fetch running R p h = refl
 no-fetch finished R p h = absurd (h refl)
 no-fetch closed R p h = refl
 
-pub fetch-late : (r : Run) (p : ℕ) → isDone r ≡ false → no-row late ≡ fetchOf (stateOf r) p
+pub fetch-late : (r : Run) (p : ℕ) → isDone r ≡ false → noRow late ≡ fetchOf (stateOf r) p
 unfolding fetchOf
 fetch-late r p e = no-fetch (stateOf r .phase) (stateOf r .rows) p (not-finished r e)
 
@@ -68,11 +68,12 @@ module _ (r : Run) (d : isDone r ≡ true) (P : length (r .patterns) ≡ 64) (C 
   rows-length : length (rowsWith (take (r .rows) (r .patterns)) (take (r .rows) (r .counts))) ≡ r .rows
   rows-length = with-length (take (r .rows) (r .patterns)) (take (r .rows) (r .counts)) (p-length ∙ sym c-length) ∙ p-length
 
-  pub fetch-past : (p : ℕ) → r .rows ≤ p → no-row pastLast ≡ fetchOf (stateOf r) p
+  pub fetch-past : (p : ℕ) → r .rows ≤ p → noRow pastLast ≡ fetchOf (stateOf r) p
   unfolding fetchOf fetchRule
   fetch-past p h = rw (finished-is, rows-length, le-ltb p (r .rows) h) refl
 
-  pub fetch-at : (p : ℕ) → p < r .rows → row (record { pattern = getD (r .patterns) p 0; count = getD (r .counts) p 0 }) ≡ fetchOf (stateOf r) p
+  pub fetch-at : (p : ℕ) → p < r .rows → row (record { pattern = getD (r .patterns) p 0; count = getD (r .counts) p 0 })
+      ≡ fetchOf (stateOf r) p
   unfolding fetchOf fetchRule
   fetch-at p h =
       let e = with-at (take (r .rows) (r .patterns)) (take (r .rows) (r .counts)) p (p-length ∙ sym c-length) (omega (arith, p-length)) in
@@ -97,8 +98,8 @@ module _ (r : Run) (d : isDone r ≡ true) (P : length (r .patterns) ≡ 64) (C 
   pub copy-all : (a b : List ℕ) → r .rows ≤ length a → r .rows ≤ length b
       → record {
         result = copied (r .rows);
-        patterns-left = take (r .rows) (r .patterns) ++ drop (r .rows) a;
-        counts-left = take (r .rows) (r .counts) ++ drop (r .rows) b;
+        patternsLeft = take (r .rows) (r .patterns) ++ drop (r .rows) a;
+        countsLeft = take (r .rows) (r .counts) ++ drop (r .rows) b;
       } ≡ copyOf (stateOf r) a b
   unfolding copyOf copyRule
   copy-all a b g h =

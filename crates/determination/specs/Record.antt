@@ -1,21 +1,23 @@
 -- The run record of the code, and what it stands for in the rules of `Run`.
 --
 --   stepOf, fetchedOf, copiedOf == what the code's calls give, in the rules' words, with document 01's numbers
---   goes-on, is-done == the phase of a record whose run goes on, and of one whose run is done
---   isSound run      == the test of a running record: its numbers are within limits, and its products are of the polynomials before its round
---   mostAsked        == a number above the questions of any such record
---   isRunning run    == the test of a record whose run goes on
---   isDone run       == the test of a record that is done: at most 64 rows
---   unlessClosed f l == the list l, which a closed record does not hold
---   whileRunning f l == the list l, which a record holds only while the run goes on
---   stateIn f run    == what the record stands for in the phase f: closed, it holds no rows, and only while the run goes on products and answers
---   runningState run == the same of a run that goes on
---   runPhase run     == the phase that the record stands for. A record may hold anything: one that no start and no answer could have left, so
---                       that it fails the test, stands for a closed run
---   stateOf run      == what the record stands for, in that phase
---   withAnswer r z, lateOn r == the round's answers with one more, and what an answer after the end gives
+--   runningPhase, donePhase     == the phase of a record whose run goes on, and of one whose run is done
+--   isSound run                 == the test of a running record: its numbers are within limits, and its products are of the polynomials
+--                                  before its round
+--   mostAsked                   == a number above the questions of any such record
+--   isRunning run               == the test of a record whose run goes on
+--   isDone run                  == the test of a record that is done: at most 64 rows
+--   unlessClosed f l            == the list l, which a closed record does not hold
+--   whileRunning f l            == the list l, which a record holds only while the run goes on
+--   stateIn f run               == what the record stands for in the phase f: closed, it holds no rows, and only while the run goes on
+--                                  products and answers
+--   runningState run            == what the record stands for where its run goes on
+--   runPhase run                == the phase that the record stands for. A record may hold anything: one that no start and no answer could
+--                                  have left, so that it fails the test, stands for a closed run
+--   stateOf run                 == what the record stands for, in that phase
+--   withAnswer r z, lateOn r    == the round's answers with one more, and what an answer after the end gives
 --   AnswerGives run a run′ step == what an answer a to the record run promises of the record run′ after it and of the step
---   startedOf s      == the record that a start for s polynomials gives, and the step: 3 outside 1 .. 8
+--   startedOf s                 == the record that a start for s polynomials gives, and the step: 3 outside 1 .. 8
 use mathlib.Core.Path.{_≡_}
 use mathlib.Core.Bool.{Bool, true, cond, _&&_}
 use mathlib.Core.List.{List, [], _∷_, _++_}
@@ -29,7 +31,7 @@ use Rattle.signs.specs.Lists.{isBelow}
 use Rattle.rounds.specs.Rows.{Row, rowsWith}
 use Rattle.rounds.specs.RoundEnd.{roundRows}
 use Rattle.run_parts.specs.Parts.{inLimits}
-use Rattle.runs.specs.Run.{Step, ask, done, refused, Fetch, row, no-row, Copied, copied, not-copied}
+use Rattle.runs.specs.Run.{Step, ask, done, refused, Fetch, row, noRow, Copied, copied, notCopied}
 use Rattle.runs.specs.Run.{State, Phase, running, finished, closed, newIn, startOf, answerOf}
 use Rattle.determination.specs.declared.Run.{Run}
 use Rattle.determination.specs.declared.Answered.{Answered}
@@ -49,20 +51,20 @@ stepOf (steps.Refused k) = refused k
 
 abbrev pub fetchedOf : Fetched → Fetch
 fetchedOf (fetches.Row r) = row (record { pattern = r .pattern .0; count = r .count })
-fetchedOf (fetches.Refused k) = no-row k
+fetchedOf (fetches.Refused k) = noRow k
 
 abbrev pub copiedOf : code-copied.Copied → Copied
 copiedOf (copies.Rows n) = copied n
-copiedOf (copies.Refused k) = not-copied k
+copiedOf (copies.Refused k) = notCopied k
 
 -- ---- the record
 
 -- a record's phase; any other number is read as closed
-abbrev pub goes-on : ℕ
-goes-on = 0
+abbrev pub runningPhase : ℕ
+runningPhase = 0
 
-abbrev pub is-done : ℕ
-is-done = 1
+abbrev pub donePhase : ℕ
+donePhase = 1
 
 abbrev pub mostAsked : ℕ
 mostAsked = 2 * mostPoints * suc mostPolynomials
@@ -74,10 +76,10 @@ isSound r =
 
 -- the test of a record whose run goes on, and of one that is done
 unfoldable pub isRunning : Run → Bool
-isRunning r = eqb (r .phase) goes-on && isSound r
+isRunning r = eqb (r .phase) runningPhase && isSound r
 
 unfoldable pub isDone : Run → Bool
-isDone r = eqb (r .phase) is-done && leb (r .rows) mostPoints
+isDone r = eqb (r .phase) donePhase && leb (r .rows) mostPoints
 
 -- the answers of the round with one more
 abbrev pub withAnswer : Run → ℤ → List ℤ

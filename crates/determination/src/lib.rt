@@ -12,9 +12,9 @@ ghost use lib.ListN.{take};
 ghost use Rattle.refusals.specs.Limits.{mostPolynomials, mostPoints};
 ghost use Rattle.signs.specs.Lists.{Below, Rising};
 ghost use Rattle.rounds.specs.RoundEnd.{roundRows};
-ghost use Rattle.runs.specs.Run.{close as closeOf, goOn, endRound, ended, first as firstOf, later as laterOf, fetchOf, copyOf};
+ghost use Rattle.runs.specs.Run.{close as closeOf, roundStep, endRound, ended, firstAnswer as firstOf, laterAnswer as laterOf, fetchOf, copyOf};
 ghost use Rattle.run_parts.specs.Parts.{heldRows};
-ghost use Rattle.determination.specs.Record.{goes-on, mostAsked, isSound, isRunning, runningState, withAnswer, isDone, lateOn, stateOf, stepOf, fetchedOf, copiedOf, AnswerGives, startedOf};
+ghost use Rattle.determination.specs.Record.{runningPhase, mostAsked, isSound, isRunning, runningState, withAnswer, isDone, lateOn, stateOf, stepOf, fetchedOf, copiedOf, AnswerGives, startedOf};
 use integers::magnitude;
 use refusals::BAD_FIRST;
 use refusals::BAD_LATER;
@@ -26,15 +26,15 @@ use refusals::NO_COUNTS;
 use refusals::PAST_LAST;
 use refusals::TOO_SHORT;
 use refusals::WRONG_COUNT;
-use round_end::Next;
 use run_parts::Rows;
 use run_parts::copy_front;
 use run_parts::find_rows;
 use run_parts::first_rows;
 use run_parts::front_below;
 use run_parts::in_limits;
-use run_parts::product_at;
 use run_parts::products_of;
+use run_parts::round_product;
+use run_round_end::Next;
 use signs::Pattern;
 use signs::Product;
 use signs::power;
@@ -202,7 +202,7 @@ fn finish(mut run: Run, i: usize, n: u64, found: Rows) -> Answered
 
 // Round i has ended with these rows, and the next round begins: its first product is asked.
 fn begin(mut run: Run, i: usize, n: u64, found: Rows) -> Answered
-    requires { ⌜ (run .phase ≡ goes-on) × (i < run .polynomials) × (run .polynomials ≤ mostPolynomials) × (n ≤ mostPoints) × (run .asked < 2 * mostPoints * suc i) ⌝ }
+    requires { ⌜ (run .phase ≡ runningPhase) × (i < run .polynomials) × (run .polynomials ≤ mostPolynomials) × (n ≤ mostPoints) × (run .asked < 2 * mostPoints * suc i) ⌝ }
     requires { ⌜ (0 < found .number) × (found .number ≤ mostPoints) ⌝ }
     requires { ⌜ Rising (take (found .number) (found .patterns)) × Below (3 ^ i) (take (found .number) (found .patterns)) ⌝ }
     ensures { λ r. ⌜ (stateOf (r .run), stepOf (r .step)) ≡ ended roundRows (runningState run) i n (heldRows found) false ⌝ }
@@ -211,7 +211,7 @@ fn begin(mut run: Run, i: usize, n: u64, found: Rows) -> Answered
     let patterns = found.patterns;
     let counts = found.counts;
     let products = products_of(i, &patterns, rows);
-    let product = product_at(i, &products, rows, 0);
+    let product = round_product(i, &products, rows, 0);
     run.asked = run.asked + 1;
     run.round = i + 1;
     run.n = n;
@@ -227,7 +227,7 @@ fn begin(mut run: Run, i: usize, n: u64, found: Rows) -> Answered
 }
 
 // The first answer: the number of points.
-fn first(run: Run, a: i64) -> Answered
+fn first_answer(run: Run, a: i64) -> Answered
     requires { ⌜ (isRunning run ≡ true) × (run .round ≡ 0) ⌝ }
     ensures { λ r. ⌜ (stateOf (r .run), stepOf (r .step)) ≡ firstOf roundRows (runningState run) a ⌝ }
 {
@@ -245,10 +245,10 @@ fn first(run: Run, a: i64) -> Answered
 }
 
 // The answer stored, and the next product of the round.
-fn go_on(mut run: Run, a: i64) -> Answered
+fn ask_next(mut run: Run, a: i64) -> Answered
     requires { ⌜ (isRunning run ≡ true) × (0 < run .round) × (run .answered + 1 < 2 * run .rows) ⌝ }
     requires { ⌜ natAbs a ≤ run .n ⌝ }
-    ensures { λ r. ⌜ (stateOf (r .run), stepOf (r .step)) ≡ goOn roundRows (runningState run) (run .round - 1) (withAnswer run a) true ⌝ }
+    ensures { λ r. ⌜ (stateOf (r .run), stepOf (r .step)) ≡ roundStep roundRows (runningState run) (run .round - 1) (withAnswer run a) true ⌝ }
 {
     let k = run.answered;
     let asked = run.asked + 1;
@@ -256,7 +256,7 @@ fn go_on(mut run: Run, a: i64) -> Answered
     run.answers[k] = short;
     run.answered = k + 1;
     run.asked = asked;
-    let product = product_at(run.round - 1, &run.products, run.rows, k + 1);
+    let product = round_product(run.round - 1, &run.products, run.rows, k + 1);
     Answered {
         run: run,
         step: Step::Ask(product),
@@ -279,7 +279,7 @@ fn next_round(run: Run, found: Rows) -> Answered
 // The last answer of a round.
 fn end_round(run: Run, a: i64) -> Answered
     requires { ⌜ (isRunning run ≡ true) × (0 < run .round) × (run .answered + 1 ≡ 2 * run .rows) ⌝ }
-    ensures { λ r. ⌜ (stateOf (r .run), stepOf (r .step)) ≡ goOn roundRows (runningState run) (run .round - 1) (withAnswer run a) false ⌝ }
+    ensures { λ r. ⌜ (stateOf (r .run), stepOf (r .step)) ≡ roundStep roundRows (runningState run) (run .round - 1) (withAnswer run a) false ⌝ }
 {
     let after = find_rows(
         run.round - 1,
@@ -309,7 +309,7 @@ fn end_round(run: Run, a: i64) -> Answered
 }
 
 // An answer after the first.
-fn later(run: Run, a: i64) -> Answered
+fn later_answer(run: Run, a: i64) -> Answered
     requires { ⌜ (isRunning run ≡ true) × (0 < run .round) ⌝ }
     ensures { λ r. ⌜ (stateOf (r .run), stepOf (r .step)) ≡ laterOf roundRows (runningState run) (run .round - 1) a ⌝ }
 {
@@ -320,7 +320,7 @@ fn later(run: Run, a: i64) -> Answered
         return close(run, BAD_LATER);
     }
     if k + 1 < 2 * rows {
-        return go_on(run, a);
+        return ask_next(run, a);
     }
     end_round(run, a)
 }
@@ -345,9 +345,9 @@ pub fn answer(run: Run, a: i64) -> Answered
         return late(run);
     }
     if run.round == 0 {
-        return first(run, a);
+        return first_answer(run, a);
     }
-    later(run, a)
+    later_answer(run, a)
 }
 
 // The same on a lent record: it is updated where it lies, and the step is returned.
@@ -409,7 +409,7 @@ pub fn asked(run: Run) -> usize
 // Copies all rows of a run that is done to the two slices. Returns how many they are: 7 before done and after closed, 15 where a slice is
 // shorter. A refusal leaves both slices as they were, and what lies past the rows is kept.
 pub fn copy_rows(run: Run, patterns: &mut [u16], counts: &mut [u16]) -> Copied
-    ensures { λ r. ⌜ record { result = copiedOf r; patterns-left = now (patterns .exit); counts-left = now (counts .exit) } ≡ copyOf (stateOf run) (now (patterns .entry)) (now (counts .entry)) ⌝ }
+    ensures { λ r. ⌜ record { result = copiedOf r; patternsLeft = now (patterns .exit); countsLeft = now (counts .exit) } ≡ copyOf (stateOf run) (now (patterns .entry)) (now (counts .entry)) ⌝ }
 {
     if !done(run) {
         return Copied::Refused(LATE);

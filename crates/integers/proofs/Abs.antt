@@ -1,4 +1,4 @@
--- Absolute values of sums, differences, negations and products. Assumes nothing.
+-- Absolute values of sums, differences, negations and products.
 use mathlib.Core.Path.{_≡_, refl}
 use Prim.Native.Nat.{ℕ, suc, _+_, _*_, _%_, _≤_}
 use native.Mathlib.Nat.{mul-le-mul}

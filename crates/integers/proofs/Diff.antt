@@ -1,4 +1,4 @@
--- A whole number as a difference of two natural numbers: `Diff z a b` says z = a − b, so that omega does the rest. Assumes nothing.
+-- A whole number as a difference of two natural numbers: `Diff z a b` says z = a − b, so that omega does the rest.
 use mathlib.Core.Path.{_≡_, refl, sym, ap, subst}
 use mathlib.Core.Bool.{Bool, true, false, not, cond}
 use Prim.Native.Nat.{ℕ, zero, suc, _+_, _-_}

@@ -1,5 +1,5 @@
 -- One fact for a whole linear expression, where `omega (int, ..)` would want one for each sum in it: `omega (int, linear e)`.
--- An `Ex` mirrors the expression, with any integer as a leaf: `linear ((‵ a ⊞ ‵ b) ⊟ ‵ c)` speaks of `(a +ℤ b) -ℤ c`. Assumes nothing.
+-- An `Ex` mirrors the expression, with any integer as a leaf: `linear ((‵ a ⊞ ‵ b) ⊟ ‵ c)` speaks of `(a +ℤ b) -ℤ c`.
 use mathlib.Core.Path.{_≡_}
 use Prim.Native.Nat.{ℕ, _+_}
 use native.Mathlib.Omega.{arith}

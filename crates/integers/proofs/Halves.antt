@@ -1,4 +1,4 @@
--- Exact halves: what `halfOf` means. Assumes nothing.
+-- Exact halves: what `halfOf` means.
 --
 -- A call promises  r ≡ halfOf x,  and a match tells  r ≡ Whole h  or  r ≡ Odd:  `half-means` turns the first into  IsHalf x r.
 use mathlib.Core.Path.{_≡_, refl, sym, ap, subst}

@@ -1,4 +1,4 @@
--- The range from −n to n: what `isWithin` means. Assumes nothing.
+-- The range from −n to n: what `isWithin` means.
 use mathlib.Core.Path.{_≡_, refl, sym, _∙_}
 use mathlib.Core.Logic.{_↔_}
 use mathlib.Core.Bool.{Bool, true, false, _&&_, false≢true}

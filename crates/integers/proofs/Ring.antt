@@ -1,7 +1,7 @@
 -- Identities of ℤ by one `simp`: `simp ringℤ` proves an equation that holds by the laws of a commutative ring, as
 -- `(a +ℤ b) -ℤ (c +ℤ a) ≡ b -ℤ c`, with nothing to name. It writes each side as one difference of two sums of products, `minus p n`,
 -- takes `minus p n ≡ minus q m` to `p +ℤ m ≡ q +ℤ n`, and sorts, so that nothing has to cancel. `simp ringℤ at h` normalizes a hypothesis.
--- For a goal that needs hypotheses or an order, use `omega int` (`Parts`). Assumes nothing.
+-- For a goal that needs hypotheses or an order, use `omega int` (`Parts`).
 use mathlib.Core.Path.{_≡_, refl, sym, ap, ap₂, _∙_}
 use mathlib.Core.Logic.{_↔_}
 use Prim.Native.Nat.{ℕ, zero, suc, _+_, _*_}
@@ -140,6 +140,41 @@ pub *ℤ-4 : (a : ℤ) → a *ℤ pos 4 ≡ (a +ℤ a) +ℤ (a +ℤ a)
 *ℤ-4 a = *ℤ-comm a (pos 4) ∙ 4-*ℤ a
 
 -- ---- the sets: `groupℤ` for sums and differences, `ringℤ` for products too
-pub ruleset groupℤ = (neg-minus, negsuc-minus, minus-sum, sum-minus, minus-minus, minus-of-minus, minus-both, minus-left, minus-right, +ℤ-assoc, +ℤ-comm, +ℤ-left-comm, +ℤ-idl, +ℤ-idr, pos-fold)
+pub ruleset groupℤ = (
+  neg-minus,
+  negsuc-minus,
+  minus-sum,
+  sum-minus,
+  minus-minus,
+  minus-of-minus,
+  minus-both,
+  minus-left,
+  minus-right,
+  +ℤ-assoc,
+  +ℤ-comm,
+  +ℤ-left-comm,
+  +ℤ-idl,
+  +ℤ-idr,
+  pos-fold,
+)
 
-pub ruleset ringℤ = (groupℤ, *ℤ-dist, dist-*ℤ, *ℤ-minus, minus-*ℤ, *ℤ-assoc, *ℤ-comm, *ℤ-left-comm, zero-*ℤ, *ℤ-zero, *ℤ-1, 1-*ℤ, *ℤ-2, 2-*ℤ, *ℤ-3, 3-*ℤ, *ℤ-4, 4-*ℤ)
+pub ruleset ringℤ = (
+  groupℤ,
+  *ℤ-dist,
+  dist-*ℤ,
+  *ℤ-minus,
+  minus-*ℤ,
+  *ℤ-assoc,
+  *ℤ-comm,
+  *ℤ-left-comm,
+  zero-*ℤ,
+  *ℤ-zero,
+  *ℤ-1,
+  1-*ℤ,
+  *ℤ-2,
+  2-*ℤ,
+  *ℤ-3,
+  3-*ℤ,
+  *ℤ-4,
+  4-*ℤ,
+)

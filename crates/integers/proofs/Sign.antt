@@ -1,4 +1,4 @@
--- The sign of an integer, −1, 0 or 1, by its parts; and of a product. Assumes nothing.
+-- The sign of an integer, −1, 0 or 1, by its parts; and of a product.
 use mathlib.Core.Path.{_≡_, refl, sym, ap, _∙_}
 use Prim.Native.Nat.{ℕ, zero, suc, _*_, _<_}
 use native.Mathlib.Omega.{arith}

@@ -1,4 +1,4 @@
--- Tests as facts: a test's value, and what it says. Assumes nothing.
+-- Tests as facts: a test's value, and what it says.
 use mathlib.Core.Path.{_≡_, refl, sym, subst}
 use mathlib.Core.Logic.{_≢_, _⊎_, inl, inr}
 use mathlib.Core.Bool.{Bool, true, false}

@@ -1,4 +1,4 @@
--- Exact halves of integers. Assumes nothing: these are definitions.
+-- Exact halves of integers.
 --
 --   isEven x   == the test that x is even
 --   halfOf x   == `Whole h`, h being half of x, where x is even; `Odd` where it is not

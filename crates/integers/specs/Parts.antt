@@ -1,4 +1,4 @@
--- The positive and the negative part of an integer, of which one is 0. Assumes nothing: these are definitions.
+-- The positive and the negative part of an integer, of which one is 0.
 --
 --   up z == z where it is positive, else 0
 --   dn z == −z where z is negative, else 0

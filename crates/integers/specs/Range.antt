@@ -1,4 +1,4 @@
--- The range from −n to n. Assumes nothing: this is a definition.
+-- The range from −n to n.
 --
 --   isWithin x n == the test −n ≤ x ≤ n, false for every x where n is negative
 use mathlib.Core.Bool.{Bool, _&&_}

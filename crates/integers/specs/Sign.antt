@@ -1,4 +1,4 @@
--- The sign of an integer. Assumes nothing: this is a definition.
+-- The sign of an integer.
 --
 --   sgnℤ x == −1, 0 or 1, as x is negative, 0 or positive
 use Prim.Native.Nat.{zero, suc}

@@ -1,4 +1,4 @@
--- Sums of integers. Assumes nothing: these are definitions.
+-- Sums of integers.
 --
 --   sumℤ xs     == the sum of the integers xs
 --   sumAbs xs   == the sum of their absolute values

@@ -1,4 +1,4 @@
--- Two's complement: what a number below 2h stands for, its absolute value and its order. Assumes nothing.
+-- Two's complement: what a number below 2h stands for, its absolute value and its order.
 use mathlib.Core.Path.{_≡_, ap}
 use mathlib.Core.Logic.{_⊎_, inl, inr, ⊎-elim}
 use Prim.Native.Nat.{ℕ, _+_, _*_, _≤_, _<_}

@@ -1,4 +1,4 @@
--- What a sound body of a polynomial is (document 01, "The card"). Assumes nothing: these are definitions.
+-- What a sound body of a polynomial is (document 01, "The card").
 --
 --   Whole c at == the body that begins at byte `at` lies on the card c, and its degree is at most 6
 --   Small c at == and its coefficients are from −1,000,000 to 1,000,000

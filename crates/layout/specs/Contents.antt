@@ -6,8 +6,8 @@ use Prim.Native.Nat.{ℕ}
 use lib.IntN.{ℤ}
 use Rattle.signs.specs.Lists.{upTo}
 use Rattle.contents.specs.Contents.{Contents}
-use Rattle.layout.specs.Format.{polynomials, points, offset, point-of}
+use Rattle.layout.specs.Format.{polynomials, pointCount, offset, pointOf}
 use Rattle.layout.specs.Values.{value}
 
 abbrev pub contentsOf : List ℕ → Contents ℤ
-contentsOf c = record { s = polynomials c; value = λ j x. value c (offset c j) x; points = map (point-of c) (upTo (points c)) }
+contentsOf c = record { s = polynomials c; value = λ j x. value c (offset c j) x; points = map (pointOf c) (upTo (pointCount c)) }

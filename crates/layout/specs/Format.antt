@@ -1,18 +1,18 @@
--- The numbers that stand on a card (document 01, "The card"). A card is the list of its bytes. Assumes nothing: these are definitions.
+-- The numbers that stand on a card (document 01, "The card"). A card is the list of its bytes.
 --
 --   byte c i           == byte i, from 0 (0 past the end)
 --   two's h b          == what b stands for in two's complement: itself below h, and b − 2h from h on
 --   polynomials c      == s, how many polynomials the card says it has
---   points c           == n, how many points it says it has
+--   pointCount c       == n, how many points it says it has
 --   offset c j         == offset j, from 0, of the contents: two bytes, high byte first
---   first c            == where the first body begins: after 4 bytes and s + 1 offsets
+--   bodiesAt c         == where the first body begins: after 4 bytes and s + 1 offsets
 --   degree c at        == the degree of the polynomial whose body begins at byte `at`
 --   word c i           == the four bytes from byte i on, high byte first
 --   size c at          == how many bytes that body has: one, and four for each of its d + 1 coefficients
 --   coefficient c at i == its coefficient of X^i: four bytes, two's complement, high byte first
 --   point c at k       == point k, from 0, of the points that begin at byte `at`: a signed byte
---   points-at c        == the byte where the points begin, by the contents
---   point-of c k       == point k of the card
+--   pointsAt c         == the byte where the points begin, by the contents
+--   pointOf c k        == point k of the card
 use mathlib.Core.Bool.{cond}
 use mathlib.Core.List.{List}
 use Prim.Native.Nat.{ℕ, _+_, _*_, _^_}
@@ -29,14 +29,14 @@ two's h b = cond (ltb b h) (pos b) (pos b -ℤ pos (2 * h))
 abbrev pub polynomials : List ℕ → ℕ
 polynomials c = byte c 1
 
-abbrev pub points : List ℕ → ℕ
-points c = byte c 2
+abbrev pub pointCount : List ℕ → ℕ
+pointCount c = byte c 2
 
 unfoldable pub offset : List ℕ → ℕ → ℕ
 offset c j = byte c (4 + 2 * j) * 256 + byte c (5 + 2 * j)
 
-abbrev pub first : List ℕ → ℕ
-first c = 4 + 2 * (polynomials c + 1)
+abbrev pub bodiesAt : List ℕ → ℕ
+bodiesAt c = 4 + 2 * (polynomials c + 1)
 
 abbrev pub degree : List ℕ → ℕ → ℕ
 degree c at = byte c at
@@ -53,8 +53,8 @@ coefficient c at i = two's (2 ^ 31) (word c (at + 1 + 4 * i))
 abbrev pub point : List ℕ → ℕ → ℕ → ℤ
 point c at k = two's 128 (byte c (at + k))
 
-abbrev pub points-at : List ℕ → ℕ
-points-at c = offset c (polynomials c)
+abbrev pub pointsAt : List ℕ → ℕ
+pointsAt c = offset c (polynomials c)
 
-abbrev pub point-of : List ℕ → ℕ → ℤ
-point-of c k = point c (points-at c) k
+abbrev pub pointOf : List ℕ → ℕ → ℤ
+pointOf c k = point c (pointsAt c) k

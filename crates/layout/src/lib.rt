@@ -4,8 +4,8 @@ ghost use mathlib.Core.Path.{_≡_};
 ghost use Prim.Native.Nat.{_+_, _*_, _≤_, _<_};
 ghost use lib.ListN.{length};
 ghost use Rattle.layout.specs.Body.{Whole};
-ghost use Rattle.layout.specs.Values.{polynomial};
-ghost use Rattle.layout.specs.Format.{first, offset, size, word, coefficient, point, two's};
+ghost use Rattle.layout.specs.Values.{coefficients};
+ghost use Rattle.layout.specs.Format.{bodiesAt, offset, size, word, coefficient, point, two's};
 use polynomials::MOST_COEFFICIENTS;
 
 // A byte as a wider number.
@@ -22,9 +22,9 @@ fn wide32(x: u8) -> u32
 }
 
 // The byte where the first body begins, after s + 1 offsets.
-pub fn first(card: &[u8]) -> usize
+pub fn bodies_at(card: &[u8]) -> usize
     requires { ⌜ 2 ≤ length (now card) ⌝ }
-    ensures { λ r. ⌜ r ≡ first (now (card .entry)) ⌝ }
+    ensures { λ r. ⌜ r ≡ bodiesAt (now (card .entry)) ⌝ }
 {
     4 + 2 * (wide(card[1]) + 1)
 }
@@ -74,9 +74,9 @@ pub fn coefficient(card: &[u8], at: usize, i: usize) -> i64
 }
 
 // The coefficients of the polynomial that begins at byte at, from the constant up, and 0 above its degree.
-pub fn polynomial(card: &[u8], at: usize) -> [i64; MOST_COEFFICIENTS]
+pub fn coefficients(card: &[u8], at: usize) -> [i64; MOST_COEFFICIENTS]
     requires { ⌜ Whole (now card) at ⌝ }
-    ensures { λ r. ⌜ r ≡ polynomial (now (card .entry)) at ⌝ }
+    ensures { λ r. ⌜ r ≡ coefficients (now (card .entry)) at ⌝ }
 {
     let d = wide(card[at]);
     let mut p = [0i64; MOST_COEFFICIENTS];

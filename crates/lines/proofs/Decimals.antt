@@ -1,5 +1,5 @@
--- Decimal text: what `io::decimal` writes is `decimal n`; and what such text is, in other words: its value is n, every byte is a digit, and it has no
--- leading zero. Assumes nothing.
+-- Decimal text: what `io::decimal` writes is `decimal n`; and what such text is, in other words: its value is n, every byte is a digit, and
+-- it has no leading zero.
 use mathlib.Core.Path.{_≡_, refl}
 use mathlib.Core.Bool.{true, cond}
 use mathlib.Core.List.{List, [], _∷_, _++_}
@@ -40,7 +40,8 @@ digits-to (suc f) (suc k) n h l m =
     let b : 10 ^ suc k ≤ n = l (omega arith) in
     rw (
       le-ltb n 10 (omega (arith, pow-suc 10 k, ten-pos k)),
-      digits-to f k (n / 10) (omega (arith, split n, last-digit n, pow-suc 10 (suc k))) (λ x. omega (arith, split n, last-digit n, pow-suc 10 k))
+      digits-to f k (n / 10) (omega (arith, split n, last-digit n, pow-suc 10 (suc k)))
+          (λ x. omega (arith, split n, last-digit n, pow-suc 10 k))
           (omega (arith, split n, last-digit n, pow-suc 10 k, ten-pos k)),
       glyph-digit (n % 10) (last-digit n),
     )
@@ -113,7 +114,8 @@ unfolding decimalTo
 all-to zero n = unfold AllDigits in tt
 all-to (suc f) n = go (decLt n 10) (all-to f (n / 10))
   where
-    go : Dec (n < 10) → AllDigits (decimalTo f (n / 10)) → AllDigits (cond (ltb n 10) (digit n ∷ []) (decimalTo f (n / 10) ++ (digit (n % 10) ∷ [])))
+    go : Dec (n < 10) → AllDigits (decimalTo f (n / 10))
+        → AllDigits (cond (ltb n 10) (digit n ∷ []) (decimalTo f (n / 10) ++ (digit (n % 10) ∷ [])))
     go (yes t) r = rw (lt-ltb n 10 t) (unfold AllDigits in (omega arith, omega arith, tt))
     go (no t) r = rw (le-ltb n 10 (omega arith)) (digits-snoc (decimalTo f (n / 10)) (n % 10) (last-digit n) r)
 

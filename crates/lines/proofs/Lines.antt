@@ -1,4 +1,4 @@
--- A line put together from its parts, as the code does it and as its definition says it. Assumes nothing.
+-- A line put together from its parts, as the code does it and as its definition says it.
 use mathlib.Core.Path.{_≡_, _∙_}
 use mathlib.Core.List.{List, [], _∷_, _++_, append-assoc}
 use Prim.Native.Nat.{ℕ}

@@ -1,4 +1,4 @@
--- The text of an integer by its sign, and its length. Assumes nothing.
+-- The text of an integer by its sign, and its length.
 use mathlib.Core.Path.{_≡_, refl}
 use mathlib.Core.List.{_∷_}
 use Prim.Native.Nat.{suc, _<_, _≤_}

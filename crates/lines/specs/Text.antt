@@ -1,12 +1,12 @@
 -- The text of numbers and of the lines of a printout, as lists of bytes in ASCII (document 01, "One card through").
 --
 --   decimalTo f n == the digits of n to the base 10, the last one right, f being at least as many as there are
---   decimal n     == the same of every number: 0 is `0`, and no other number begins with `0`
+--   decimal n     == the digits of n to the base 10: 0 is `0`, and no other number begins with `0`
 --   signed z      == an integer: `-` before a negative one
 --   questionLine product answer, rowLine pattern count, endLine questions, refusalLine number
 --                 == "Q product answer; S pattern count; E questions", and "`R` and its number", each with a newline at its end
---   textOf l      == the text that a line of the code holds: its front bytes
---   lineRoom      == 80, the bytes that a line of the code has room for
+--   textOf l == the text that a line of the code holds: its front bytes
+--   lineRoom == 80, the bytes that a line of the code has room for
 use mathlib.Core.Bool.{cond}
 use mathlib.Core.List.{List, [], _∷_, _++_}
 use Prim.Native.Nat.{ℕ, zero, suc, _+_, _/_, _%_}
@@ -29,17 +29,17 @@ minus = 45
 abbrev pub digit : ℕ → ℕ
 digit d = 48 + d
 
-abbrev pub letter-E : ℕ
-letter-E = 69
+abbrev pub letterE : ℕ
+letterE = 69
 
-abbrev pub letter-Q : ℕ
-letter-Q = 81
+abbrev pub letterQ : ℕ
+letterQ = 81
 
-abbrev pub letter-R : ℕ
-letter-R = 82
+abbrev pub letterR : ℕ
+letterR = 82
 
-abbrev pub letter-S : ℕ
-letter-S = 83
+abbrev pub letterS : ℕ
+letterS = 83
 
 -- ---- numbers
 
@@ -57,16 +57,16 @@ signed (negsuc n) = minus ∷ decimal (suc n)
 -- ---- lines
 
 unfoldable pub questionLine : ℕ → ℤ → List ℕ
-questionLine product answer = (letter-Q ∷ space ∷ decimal product) ++ ((space ∷ signed answer) ++ (newline ∷ []))
+questionLine product answer = (letterQ ∷ space ∷ decimal product) ++ ((space ∷ signed answer) ++ (newline ∷ []))
 
 unfoldable pub rowLine : ℕ → ℕ → List ℕ
-rowLine pattern count = (letter-S ∷ space ∷ decimal pattern) ++ ((space ∷ decimal count) ++ (newline ∷ []))
+rowLine pattern count = (letterS ∷ space ∷ decimal pattern) ++ ((space ∷ decimal count) ++ (newline ∷ []))
 
 unfoldable pub endLine : ℕ → List ℕ
-endLine questions = (letter-E ∷ space ∷ decimal questions) ++ (newline ∷ [])
+endLine questions = (letterE ∷ space ∷ decimal questions) ++ (newline ∷ [])
 
 unfoldable pub refusalLine : ℕ → List ℕ
-refusalLine number = (letter-R ∷ space ∷ decimal number) ++ (newline ∷ [])
+refusalLine number = (letterR ∷ space ∷ decimal number) ++ (newline ∷ [])
 
 abbrev pub lineRoom : ℕ
 lineRoom = 80

@@ -1,6 +1,7 @@
 -- Horner's rule: a polynomial's value from the top coefficient down, and a bound on what stands on the way.
 --
---   from a x i m == the sum of a (i + k) times x^k over the m numbers k from 0: what Horner's rule has once it has taken a i, m coefficients in all
+--   from a x i m == the sum of a (i + k) times x^k over the m numbers k from 0: what Horner's rule has once it has taken a i, m
+--                   coefficients in all
 --   top m        == a bound on it where each coefficient is within 1,000,000 and x within 128
 use mathlib.Core.Path.{_≡_, refl, ap, _∙_}
 use Prim.Native.Nat.{ℕ, zero, suc, _+_, _*_, _≤_, _<_, zero-le}

@@ -6,7 +6,7 @@ ghost use Prim.Native.Nat.{_≤_};
 ghost use lib.IntN.{natAbs};
 ghost use Rattle.refusals.specs.Limits.{mostCoefficient};
 ghost use Rattle.integers.specs.Sums.{Within};
-ghost use Rattle.signs.specs.Signs.{sign-digit};
+ghost use Rattle.signs.specs.Signs.{signDigit};
 ghost use Rattle.polynomials.specs.Values.{evaluate};
 use refusals::MOST_DEGREE;
 
@@ -30,7 +30,7 @@ pub fn evaluate(p: &[i64; MOST_COEFFICIENTS], x: i64) -> i64
 // The digit of its sign in a pattern number: 0 for 0, 1 for +, 2 for −.
 pub fn sign(p: &[i64; MOST_COEFFICIENTS], x: i64) -> u16
     requires { ⌜ Within mostCoefficient (now p) × (natAbs x ≤ 128) ⌝ }
-    ensures { λ r. ⌜ r ≡ sign-digit (evaluate (now (p .entry)) x) ⌝ }
+    ensures { λ r. ⌜ r ≡ signDigit (evaluate (now (p .entry)) x) ⌝ }
 {
     let v = evaluate(p, x);
     if v < 0 {

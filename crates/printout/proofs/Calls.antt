@@ -1,5 +1,5 @@
--- THEOREM of the code: what `begin` and then `next_line` give, call after call, is the card's printout. The calls are known by their contracts alone
--- (`Learnt`: what a call promises of its arguments and its result), so that a weaker promise of either breaks the theorem.
+-- THEOREM of the code: what `begin` and then `next_line` give, call after call, is the card's printout. The calls are known by their
+-- contracts alone (`Learnt`: what a call promises of its arguments and its result), so that a weaker promise of either breaks the theorem.
 --
 --   Calls t os  == calls of `next_line` one after the other, the first on t and each on the progress that the one before left, gave os
 --   lastOf t os == the progress that they leave
@@ -43,7 +43,8 @@ calls-print t (l ∷ ls) (o ∷ os) p c h =
     (ap₂ _∷_ (s .text ∙ p .0) a, b)
 
 -- from the start on a card, as many calls as its printout has lines give these lines, and then it is over
-pub code-lines : (κs : Lfts 1) (card : RefT (List ℕ)) (t : Progress) (os : List Printed) → begin.Learnt κs (card, tt) t (card, tt) → Calls t os
+pub code-lines : (κs : Lfts 1) (card : RefT (List ℕ)) (t : Progress) (os : List Printed) → begin.Learnt κs (card, tt) t (card, tt)
+    → Calls t os
     → length os ≡ length (linesOf (now card)) → (texts os ≡ linesOf (now card)) × (progressOf (lastOf t os) .stage ≡ over)
 code-lines κs card t os b c h =
     calls-print t (linesOf (now card)) os (subst (λ (u : ProgressState). Prints u (linesOf (now card))) (sym b) (prints (now card))) c h

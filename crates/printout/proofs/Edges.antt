@@ -9,13 +9,14 @@ use lib.IntN.{pos, negsuc}
 use lib.ListN.{set}
 use Rattle.integers.specs.Sums.{sumℤ, sumTo}
 use Rattle.signs.specs.Lists.{times, upTo, keep, shift}
-use Rattle.signs.specs.Adapted.{adapted, lows, signsOf}
+use Rattle.signs.specs.Adapted.{adapted, restrictions, signsOf}
 use Rattle.integers.specs.Powers.{power}
-use Rattle.signs.specs.Signs.{sign-digit}
+use Rattle.signs.specs.Signs.{signDigit}
 use Rattle.contents.specs.Contents.{productTo, queryIn, patternTo, patternsIn}
 use Rattle.layout.specs.Format.{two's, offset, word}
 use Rattle.layout.specs.Values.{value}
-use Rattle.card.specs.Card.{some, contents, header, polynomial, coefficients, bodies, last, refusal}
+use Rattle.card.specs.Card.{anyBelow, contentsRefusal, headerRefusal, polynomialRefusal, coefficientsRefusal, bodiesRefusal, pointsRefusal}
+use Rattle.card.specs.Card.{refusal}
 use Rattle.rounds.specs.Rows.{restrict, patterns, rowIf, rowsOf, realized}
 use Rattle.rounds.specs.Rounds.{roundOf}
 use Rattle.lines.specs.Text.{decimalTo, decimal, signed, questionLine, rowLine, endLine, refusalLine}
@@ -32,12 +33,14 @@ empty = 1 ∷ 1 ∷ 0 ∷ 0 ∷ 0 ∷ 8 ∷ 0 ∷ 17 ∷ 1 ∷ 0 ∷ 0 ∷ 0 ∷
 
 -- a card refused by 5: `R 5`
 refused-text : printoutOf (set example 12 7) ≡ (82 ∷ 32 ∷ 53 ∷ 10 ∷ [])
-unfolding printoutOf together linesOf refusal header contents bodies polynomial coefficients last some offset two's word refusalLine decimal decimalTo
+unfolding printoutOf together linesOf refusal headerRefusal contentsRefusal bodiesRefusal polynomialRefusal coefficientsRefusal
+    pointsRefusal anyBelow offset two's word refusalLine decimal decimalTo
 refused-text = refl
 
 -- `Q 0 0` and `E 1`
 empty-text : printoutOf empty ≡ (81 ∷ 32 ∷ 48 ∷ 32 ∷ 48 ∷ 10 ∷ 69 ∷ 32 ∷ 49 ∷ 10 ∷ [])
-unfolding printoutOf together linesOf soundLines questionLines rowLines questions refusal header contents bodies polynomial coefficients last some offset two's word
+unfolding printoutOf together linesOf soundLines questionLines rowLines questions refusal headerRefusal contentsRefusal bodiesRefusal
+    polynomialRefusal coefficientsRefusal pointsRefusal anyBelow offset two's word
     questionLine endLine decimal decimalTo signed queryIn patternsIn upTo sumℤ realized rowsOf rowIf times
 empty-text = refl
 
@@ -46,9 +49,10 @@ example-lines : linesOf example ≡
     (questionLine 0 (pos 3) ∷ questionLine 1 (pos 1) ∷ questionLine 2 (pos 3) ∷ questionLine 3 (pos 1) ∷ questionLine 4 (pos 3)
     ∷ questionLine 6 (pos 3) ∷ questionLine 7 (pos 1) ∷ questionLine 9 (negsuc 0) ∷ questionLine 10 (pos 1) ∷ questionLine 18 (pos 3)
     ∷ questionLine 19 (pos 1) ∷ rowLine 13 1 ∷ rowLine 22 1 ∷ rowLine 26 1 ∷ endLine 11 ∷ [])
-unfolding linesOf soundLines questionLines rowLines questions roundsTo restrict refusal header contents bodies polynomial coefficients last some offset two's word
-    queryIn productTo patternsIn patternTo value sign-digit power upTo sumℤ sumTo
-    realized rowsOf rowIf times patterns roundOf adapted lows signsOf keep shift
+unfolding linesOf soundLines questionLines rowLines questions roundsTo restrict refusal headerRefusal contentsRefusal bodiesRefusal
+    polynomialRefusal coefficientsRefusal pointsRefusal anyBelow offset two's word
+    queryIn productTo patternsIn patternTo value signDigit power upTo sumℤ sumTo
+    realized rowsOf rowIf times patterns roundOf adapted restrictions signsOf keep shift
 example-lines = refl
 
 -- `Q 9 -1`

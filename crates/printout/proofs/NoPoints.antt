@@ -6,7 +6,7 @@ use lib.IntN.{ℤ, pos}
 use Rattle.signs.specs.Lists.{Below, Rising, upTo}
 use Rattle.contents.specs.Contents.{patternsIn, patternAt}
 use Rattle.contents.proofs.Patterns.{query-none}
-use Rattle.layout.specs.Format.{polynomials, points, point-of}
+use Rattle.layout.specs.Format.{polynomials, pointCount, pointOf}
 use Rattle.layout.specs.Contents.{contentsOf}
 use Rattle.layout.proofs.Contents.{points-long}
 use Rattle.card.specs.Sound.{Sound}
@@ -19,7 +19,7 @@ use Rattle.printout.specs.Printout.{questions, questionLines, rowLines, 
 use Rattle.printout.proofs.Printing.{sound-lines}
 
 no-rows : (s : ℕ) → realized s [] ≡ []
-no-rows s = realized-rows s [] [] nothing (λ q h. unfold rows.points in refl)
+no-rows s = realized-rows s [] [] nothing (λ q h. unfold rows.repeated in refl)
   where
     nothing : IsRows s []
     nothing = record { rising = unfold patterns Rising in tt; below = unfold patterns Below in tt; positive = unfold Positive in tt }
@@ -29,8 +29,8 @@ lines-with : (c : List ℕ) (z : ℤ) → patternsOf c ≡ [] → queryOf c 0 �
 unfolding soundLines questionLines rowLines questions
 lines-with c z e f = rw (e, no-rows (polynomials c), f) refl
 
-pub no-points : (c : List ℕ) → Sound c → points c ≡ 0 → linesOf c ≡ (questionLine 0 (pos 0) ∷ endLine 1 ∷ [])
+pub no-points : (c : List ℕ) → Sound c → pointCount c ≡ 0 → linesOf c ≡ (questionLine 0 (pos 0) ∷ endLine 1 ∷ [])
 no-points c S e =
     sound-lines c S
-    ∙ lines-with c (pos 0) (unfold patternsIn upTo in ap (λ (n : ℕ). map (patternAt (contentsOf c)) (map (point-of c) (upTo n))) e)
+    ∙ lines-with c (pos 0) (unfold patternsIn upTo in ap (λ (n : ℕ). map (patternAt (contentsOf c)) (map (pointOf c) (upTo n))) e)
     (query-none (contentsOf c) ∙ ap pos (points-long c ∙ e))

@@ -1,5 +1,5 @@
--- THEOREM: the lines of a play from the beginning on a card are `linesOf` the card, at most 658, and then it is over. On a sound card the run answered by
--- the card's queries ends done, with the patterns of the card's points, each with its number of points.
+-- THEOREM: the lines of a play from the beginning on a card are `linesOf` the card, at most 658, and then it is over. On a sound card the
+-- run answered by the card's queries ends done, with the patterns of the card's points, each with its number of points.
 use mathlib.Core.Path.{_≡_, refl, sym, ap, _∙_, subst}
 use mathlib.Core.List.{List, [], _∷_, _++_, append-assoc, append-nil}
 use Prim.Native.Nat.{ℕ, zero, suc, _+_, _*_, _^_, _<_, _≤_}
@@ -21,8 +21,8 @@ use Rattle.refusals.specs.Numbers.{unless}
 use Rattle.card.specs.Sound.{Sound}
 use Rattle.card.proofs.Sound.{sound, unrefused}
 use Rattle.query.specs.declared.Opened.{Opened}
-use Rattle.query.specs.declared.Answer.the-variants as of-query
-use Rattle.query.specs.Opened.{opened, answer}
+use Rattle.query.specs.declared.Queried.the-variants as of-query
+use Rattle.query.specs.Opened.{opened, openedAnswer}
 use Rattle.query.specs.Query.{queryOf, patternsOf}
 use Rattle.query.proofs.Opening.{answer-opened, opened-sound}
 use Rattle.query.proofs.Answers.{query-sound, query-refused}
@@ -41,7 +41,8 @@ use Rattle.contents_runs.specs.Runs.{runOn}
 use Rattle.contents_runs.proofs.Runs.{oracle, contents-done, contents-rows}
 use Rattle.lines.specs.Text.{questionLine, rowLine, endLine, refusalLine}
 use Rattle.printout.specs.Printout.{questions, questionLines, rowLines, soundLines, linesOf}
-use Rattle.printout.specs.Progress.{Stage, question, row-at, over, ProgressState, begunOf, gives, onStep, onAnswer, afterRow, onFetch, nextAt, nextOf, Prints}
+use Rattle.printout.specs.Progress.{Stage, question, rowAt, over, ProgressState, begunOf, gives, onStep, onAnswer, afterRow, onFetch}
+use Rattle.printout.specs.Progress.{nextAt, nextOf, Prints}
 use Rattle.printout.proofs.Questions.{asked-questions, found-realized, few-rows, few-questions}
 
 -- ---- the rows of a run that is done
@@ -52,30 +53,35 @@ at o r g = record { card = o; state = r; stage = g }
 -- one line more
 prints-more : (t u : ProgressState) (l : List ℕ) (ls : List (List ℕ)) → nextOf t ≡ (u, l) → Prints u ls → Prints t (l ∷ ls)
 unfolding Prints
-prints-more t u l ls e p = (ap (λ (x : ProgressState × List ℕ). x .1) e, subst (λ (x : ProgressState). Prints x ls) (sym (ap (λ (x : ProgressState × List ℕ). x .0) e)) p)
+prints-more t u l ls e p = (
+  ap (λ (x : ProgressState × List ℕ). x .1) e,
+  subst (λ (x : ProgressState). Prints x ls) (sym (ap (λ (x : ProgressState × List ℕ). x .0) e)) p,
+)
 
 module _ (o : Opened) (r : State) (done : r .phase ≡ finished) where
-  next-end : (p : ℕ) → length (r .rows) ≤ p → nextOf (at o r (row-at p)) ≡ gives o r over (endLine (r .total))
+  next-end : (p : ℕ) → length (r .rows) ≤ p → nextOf (at o r (rowAt p)) ≡ gives o r over (endLine (r .total))
   unfolding nextOf nextAt onFetch fetchOf fetchRule
   next-end p h = rw (done, le-ltb p (length (r .rows)) h) refl
 
   next-row : (p : ℕ) (x : Row) → p < length (r .rows) → p < 64 → getD (r .rows) p (record { pattern = 0; count = 0 }) ≡ x
-      → nextOf (at o r (row-at p)) ≡ gives o r (row-at (suc p)) (rowLine (x .pattern) (x .count))
+      → nextOf (at o r (rowAt p)) ≡ gives o r (rowAt (suc p)) (rowLine (x .pattern) (x .count))
   unfolding nextOf nextAt onFetch fetchOf fetchRule afterRow
   next-row p x h b g = rw (done, lt-ltb p (length (r .rows)) h, lt-ltb p 64 b, g) refl
 
   rows-print : length (r .rows) ≤ mostPoints → (before after : List Row) → before ++ after ≡ r .rows
-      → Prints (at o r (row-at (length before))) (rowLines after ++ (endLine (r .total) ∷ []))
+      → Prints (at o r (rowAt (length before))) (rowLines after ++ (endLine (r .total) ∷ []))
   unfolding rowLines
   rows-print few before [] e =
-      prints-more (at o r (row-at (length before))) (at o r over) (endLine (r .total)) []
+      prints-more (at o r (rowAt (length before))) (at o r over) (endLine (r .total)) []
       (next-end (length before) (omega (arith, ap length e, length-append before []))) (unfold Prints in refl)
   rows-print few before (x ∷ after) e =
-      prints-more (at o r (row-at (length before))) (at o r (row-at (suc (length before)))) (rowLine (x .pattern) (x .count)) _
+      prints-more (at o r (rowAt (length before))) (at o r (rowAt (suc (length before)))) (rowLine (x .pattern) (x .count)) _
       (next-row (length before) x (omega (arith, ap length e, length-append before (x ∷ after)))
       (omega (arith, few, ap length e, length-append before (x ∷ after)))
-      (ap (λ (l : List Row). getD l (length before) (record { pattern = 0; count = 0 })) (sym e) ∙ getD-append-seam before x after (record { pattern = 0; count = 0 })))
-      (subst (λ (k : ℕ). Prints (at o r (row-at k)) (rowLines after ++ (endLine (r .total) ∷ []))) (length-append before (x ∷ []) ∙ omega arith)
+      (ap (λ (l : List Row). getD l (length before) (record { pattern = 0; count = 0 })) (sym e)
+      ∙ getD-append-seam before x after (record { pattern = 0; count = 0 })))
+      (subst (λ (k : ℕ). Prints (at o r (rowAt k)) (rowLines after ++ (endLine (r .total) ∷ [])))
+      (length-append before (x ∷ []) ∙ omega arith)
       (rows-print few (before ++ (x ∷ [])) after (append-assoc before (x ∷ []) after ∙ e)))
 
 -- ---- the questions
@@ -128,11 +134,12 @@ step-ask : (o : Opened) (α : ℕ) (z : ℤ) (r : State) (β : ℕ) → onStep o
 unfolding onStep
 step-ask o α z r β = refl
 
-step-done : (o : Opened) (α : ℕ) (z : ℤ) (r : State) → onStep o α z (r, done) ≡ gives o r (row-at 0) (questionLine α z)
+step-done : (o : Opened) (α : ℕ) (z : ℤ) (r : State) → onStep o α z (r, done) ≡ gives o r (rowAt 0) (questionLine α z)
 unfolding onStep
 step-done o α z r = refl
 
-question-more : (c : List ℕ) (p : ℕ) (ps : List ℕ) (ls : List (List ℕ)) → questionLine p (queryOf c p) ∷ (questionLines c ps ++ ls) ≡ questionLines c (p ∷ ps) ++ ls
+question-more : (c : List ℕ) (p : ℕ) (ps : List ℕ) (ls : List (List ℕ)) → questionLine p (queryOf c p) ∷ (questionLines c ps ++ ls)
+    ≡ questionLines c (p ∷ ps) ++ ls
 unfolding questionLines
 question-more c p ps ls = refl
 
@@ -158,7 +165,7 @@ module _ (c : List ℕ) (S : Sound c) where
     few-q : length (questions s E) ≤ mostQuestions
     few-r : length (realized s E) ≤ mostPoints
 
-  card-answers : (α : ℕ) → α < 3 ^ s → answer (opened c) α ≡ of-query.Number (queryOf c α)
+  card-answers : (α : ℕ) → α < 3 ^ s → openedAnswer (opened c) α ≡ of-query.Number (queryOf c α)
   card-answers α b = answer-opened c α ∙ query-sound c α S b
 
   -- k more answers, from a record that has asked α last
@@ -201,7 +208,8 @@ module _ (c : List ℕ) (S : Sound c) where
             all = sym (append-assoc qs (α ∷ []) (R .rest)) ∙ R .all;
             prints =
                 subst (Prints (at (opened c) r (question α))) (question-more c α (R .rest) tail)
-                (prints-more (at (opened c) r (question α)) (at (opened c) r′ (question β)) (questionLine α z) (questionLines c (R .rest) ++ tail)
+                (prints-more (at (opened c) r (question α)) (at (opened c) r′ (question β)) (questionLine α z)
+                (questionLines c (R .rest) ++ tail)
                 (first ∙ ap (onStep (opened c) α z) h ∙ step-ask (opened c) α z r′ β) (R .prints));
             few-q = R .few-q;
             few-r = R .few-r;
@@ -212,7 +220,7 @@ module _ (c : List ℕ) (S : Sound c) where
             all = q;
             prints =
                 subst (Prints (at (opened c) r (question α))) (question-more c α [] tail)
-                (prints-more (at (opened c) r (question α)) (at (opened c) r′ (row-at 0)) (questionLine α z) (questionLines c [] ++ tail)
+                (prints-more (at (opened c) r (question α)) (at (opened c) r′ (rowAt 0)) (questionLine α z) (questionLines c [] ++ tail)
                 (first ∙ ap (onStep (opened c) α z) h ∙ step-done (opened c) α z r′) rows);
             few-q = few-questions s E holds (zs ++ (z ∷ [])) ps (r′ .rows) D fit (S .s-most);
             few-r = few;
@@ -239,11 +247,11 @@ module _ (c : List ℕ) (S : Sound c) where
           total : r′ .total ≡ length (questions s E)
           total = J .count ∙ sym lengths ∙ ap length q
 
-          rows : Prints (at (opened c) r′ (row-at 0)) (questionLines c [] ++ tail)
+          rows : Prints (at (opened c) r′ (rowAt 0)) (questionLines c [] ++ tail)
           rows =
               unfold questionLines in
-              subst (λ (R : List Row). Prints (at (opened c) r′ (row-at 0)) (rowLines R ++ (endLine (length (questions s E)) ∷ []))) found
-              (subst (λ (n : ℕ). Prints (at (opened c) r′ (row-at 0)) (rowLines (r′ .rows) ++ (endLine n ∷ []))) total
+              subst (λ (R : List Row). Prints (at (opened c) r′ (rowAt 0)) (rowLines R ++ (endLine (length (questions s E)) ∷ []))) found
+              (subst (λ (n : ℕ). Prints (at (opened c) r′ (rowAt 0)) (rowLines (r′ .rows) ++ (endLine n ∷ []))) total
               (rows-print (opened c) r′ fin (subst (λ (R : List Row). length R ≤ mostPoints) (sym found) few) [] (r′ .rows) refl))
       go (r′, refused n) h B =
           let C : Closed s (zs ++ (z ∷ [])) ps =
@@ -289,7 +297,8 @@ unfolding begunOf
 refused-prints c k e =
     prints-more (begunOf c) (at (opened c) (begunOf c .state) over) (refusalLine (suc k)) []
     (unfold nextOf nextAt onAnswer in
-    ap (onAnswer (opened c) (begunOf c .state) 0) (answer-opened c 0 ∙ query-refused c 0 (λ z. absurd (omega (arith, e, z))) ∙ ap of-query.Refused e))
+    ap (onAnswer (opened c) (begunOf c .state) 0)
+    (answer-opened c 0 ∙ query-refused c 0 (λ z. absurd (omega (arith, e, z))) ∙ ap of-query.Refused e))
     (unfold Prints in refl)
 
 -- THE THEOREM
@@ -322,7 +331,8 @@ pub sound-lines : (c : List ℕ) → Sound c → linesOf c ≡ soundLines c
 unfolding linesOf
 sound-lines c S = rw (unrefused c S) refl
 
--- on a sound card the run answered by the card's queries ends done, with the patterns of the card's points, each once, rising, with its number of points
+-- on a sound card the run answered by the card's queries ends done, with the patterns of the card's points, each once, rising, with its
+-- number of points
 module _ (c : List ℕ) (S : Sound c) where
   pub card-done : (k : ℕ) → enough (polynomials c) ≤ k
       → (runOn (contentsOf c) k .phase ≡ finished) × (runOn (contentsOf c) k .rows ≡ realized (polynomials c) (patternsOf c))

@@ -9,9 +9,9 @@ use borrow.Author.Tests.{eq-eqb}
 use Rattle.refusals.specs.Numbers.{pastLast}
 use Rattle.signs.specs.declared.Product.{Product}
 use Rattle.query.specs.declared.Opened.{Opened}
-use Rattle.query.specs.declared.Answer.{Answer}
-use Rattle.query.specs.declared.Answer.the-variants as of-query
-use Rattle.query.specs.Opened.{opened, answer}
+use Rattle.query.specs.declared.Queried.{Queried}
+use Rattle.query.specs.declared.Queried.the-variants as of-query
+use Rattle.query.specs.Opened.{opened, openedAnswer}
 use Rattle.rounds.specs.RoundEnd.{roundRows}
 use Rattle.determination.specs.declared.Run.{Run}
 use Rattle.determination.specs.declared.Step as code-step
@@ -27,7 +27,8 @@ use Rattle.printout.specs.declared.Stage as code-stage
 use Rattle.printout.specs.declared.Stage.the-variants as stages
 use Rattle.printout.specs.declared.Progress.{Progress}
 use Rattle.printout.specs.declared.Printed.{Printed}
-use Rattle.printout.specs.Progress.{Stage, progressOf, stageOf, begunOf, gives, onStep, onAnswer, onFetch, afterRow, nextAt, nextOf, Shows}
+use Rattle.printout.specs.Progress.{Stage, progressOf, stageOf, begunOf, gives, onStep, onAnswer, onFetch, afterRow, nextAt, nextOf}
+use Rattle.printout.specs.Progress.{Shows}
 
 -- ---- a line made from its parts
 
@@ -43,7 +44,13 @@ pub made : (o : Printed) (card : Opened) (run : Run) (stage : code-stage.Stage) 
     → (o .progress .card ≡ card) × (o .progress .run ≡ run) × (o .progress .stage ≡ stage) × (o .line ≡ line)
     → (textOf line ≡ t) × (line .length ≤ lineRoom) → Made o card run stage t
 made o card run stage line t (a, b, c, d) (e, f) =
-    record { its-card = a; its-run = b; its-stage = c; its-text = ap textOf d ∙ e; its-length = subst (λ (l : Line). l .length ≤ lineRoom) (sym d) f }
+    record {
+      its-card = a;
+      its-run = b;
+      its-stage = c;
+      its-text = ap textOf d ∙ e;
+      its-length = subst (λ (l : Line). l .length ≤ lineRoom) (sym d) f;
+    }
 
 pub shown : (o : Printed) (card : Opened) (run : Run) (stage : code-stage.Stage) (t : List ℕ) → Made o card run stage t
     → Shows o (gives card (stateOf run) (stageOf stage) t)
@@ -57,7 +64,7 @@ shown o card run stage t m =
 -- ---- a question
 
 module _ (o : Printed) (card : Opened) (run run′ : Run) (α : ℕ) (z : ℤ) (step : code-step.Step) where
-  -- what `answer` promises
+  -- what `openedAnswer` promises
   abbrev Heard : Type 0
   Heard = _≡_ {A = State × Step} (stateOf run′, stepOf step) (answerOf roundRows (stateOf run) z)
 
@@ -69,42 +76,54 @@ module _ (o : Printed) (card : Opened) (run run′ : Run) (α : ℕ) (z : ℤ) (
 
   pub asks : (b : Product) → step ≡ steps.Ask b → Heard → Made o card run′ (stages.Ask b) (questionLine α z) → Goal
   unfolding onStep
-  asks b e h m = heard h (subst (λ (x : code-step.Step). Shows o (onStep card α z (stateOf run′, stepOf x))) (sym e) (shown o card run′ (stages.Ask b) (questionLine α z) m))
+  asks b e h m =
+      heard h (subst (λ (x : code-step.Step). Shows o (onStep card α z (stateOf run′, stepOf x))) (sym e)
+      (shown o card run′ (stages.Ask b) (questionLine α z) m))
 
   pub ends : step ≡ steps.Done → Heard → Made o card run′ (stages.Row 0) (questionLine α z) → Goal
   unfolding onStep
-  ends e h m = heard h (subst (λ (x : code-step.Step). Shows o (onStep card α z (stateOf run′, stepOf x))) (sym e) (shown o card run′ (stages.Row 0) (questionLine α z) m))
+  ends e h m =
+      heard h (subst (λ (x : code-step.Step). Shows o (onStep card α z (stateOf run′, stepOf x))) (sym e)
+      (shown o card run′ (stages.Row 0) (questionLine α z) m))
 
   pub refuses : (k : ℕ) → step ≡ steps.Refused k → Heard → Made o card run′ stages.Over (refusalLine k) → Goal
   unfolding onStep
-  refuses k e h m = heard h (subst (λ (x : code-step.Step). Shows o (onStep card α z (stateOf run′, stepOf x))) (sym e) (shown o card run′ stages.Over (refusalLine k) m))
+  refuses k e h m =
+      heard h (subst (λ (x : code-step.Step). Shows o (onStep card α z (stateOf run′, stepOf x))) (sym e)
+      (shown o card run′ stages.Over (refusalLine k) m))
 
-module _ (o : Printed) (card : Opened) (run : Run) (α : ℕ) (x y : Answer) (same : x ≡ y) where
-  pub numbered : (z : ℤ) → x ≡ of-query.Number z → Shows o (onStep card α z (answerOf roundRows (stateOf run) z)) → Shows o (onAnswer card (stateOf run) α y)
+module _ (o : Printed) (card : Opened) (run : Run) (α : ℕ) (x y : Queried) (same : x ≡ y) where
+  pub numbered : (z : ℤ) → x ≡ of-query.Number z → Shows o (onStep card α z (answerOf roundRows (stateOf run) z))
+      → Shows o (onAnswer card (stateOf run) α y)
   unfolding onAnswer
-  numbered z e s = subst (λ (v : Answer). Shows o (onAnswer card (stateOf run) α v)) (sym e ∙ same) s
+  numbered z e s = subst (λ (v : Queried). Shows o (onAnswer card (stateOf run) α v)) (sym e ∙ same) s
 
   pub not-shown : (k : ℕ) → x ≡ of-query.Refused k → Made o card run stages.Over (refusalLine k) → Shows o (onAnswer card (stateOf run) α y)
   unfolding onAnswer
-  not-shown k e m = subst (λ (v : Answer). Shows o (onAnswer card (stateOf run) α v)) (sym e ∙ same) (shown o card run stages.Over (refusalLine k) m)
+  not-shown k e m =
+      subst (λ (v : Queried). Shows o (onAnswer card (stateOf run) α v)) (sym e ∙ same) (shown o card run stages.Over (refusalLine k) m)
 
 -- ---- a row
 
 module _ (o : Printed) (card : Opened) (run : Run) (p : ℕ) (x : Fetched) (y : Fetch) (same : fetchedOf x ≡ y) where
-  pub row-shown : (r : Row) (g : code-stage.Stage) → x ≡ fetches.Row r → stageOf g ≡ afterRow p → Made o card run g (rowLine (r .pattern .0) (r .count))
+  pub row-shown : (r : Row) (g : code-stage.Stage) → x ≡ fetches.Row r → stageOf g ≡ afterRow p
+      → Made o card run g (rowLine (r .pattern .0) (r .count))
       → Shows o (onFetch card (stateOf run) p y)
   unfolding onFetch
   row-shown r g e a m =
       subst (λ (v : Fetch). Shows o (onFetch card (stateOf run) p v)) (ap fetchedOf (sym e) ∙ same)
-      (subst (λ (u : Stage). Shows o (gives card (stateOf run) u (rowLine (r .pattern .0) (r .count)))) a (shown o card run g (rowLine (r .pattern .0) (r .count)) m))
+      (subst (λ (u : Stage). Shows o (gives card (stateOf run) u (rowLine (r .pattern .0) (r .count)))) a
+      (shown o card run g (rowLine (r .pattern .0) (r .count)) m))
 
-  pub last-shown : (k : ℕ) → x ≡ fetches.Refused k → k ≡ pastLast → Made o card run stages.Over (endLine (stateOf run .total)) → Shows o (onFetch card (stateOf run) p y)
+  pub last-shown : (k : ℕ) → x ≡ fetches.Refused k → k ≡ pastLast → Made o card run stages.Over (endLine (stateOf run .total))
+      → Shows o (onFetch card (stateOf run) p y)
   unfolding onFetch
   last-shown k e h m =
       subst (λ (v : Fetch). Shows o (onFetch card (stateOf run) p v)) (ap fetchedOf (sym e) ∙ same)
       (rw (eq-eqb k pastLast h) (shown o card run stages.Over (endLine (stateOf run .total)) m))
 
-  pub row-refused : (k : ℕ) → x ≡ fetches.Refused k → eqb k pastLast ≡ false → Made o card run stages.Over (refusalLine k) → Shows o (onFetch card (stateOf run) p y)
+  pub row-refused : (k : ℕ) → x ≡ fetches.Refused k → eqb k pastLast ≡ false → Made o card run stages.Over (refusalLine k)
+      → Shows o (onFetch card (stateOf run) p y)
   unfolding onFetch
   row-refused k e h m =
       subst (λ (v : Fetch). Shows o (onFetch card (stateOf run) p v)) (ap fetchedOf (sym e) ∙ same)
@@ -113,11 +132,13 @@ module _ (o : Printed) (card : Opened) (run : Run) (p : ℕ) (x : Fetched) (y : 
 -- ---- the next line
 
 module _ (o : Printed) (t : Progress) where
-  pub question-next : (a : Product) → t .stage ≡ stages.Ask a → Shows o (onAnswer (t .card) (stateOf (t .run)) (a .0) (answer (t .card) (a .0))) → Shows o (nextOf (progressOf t))
+  pub question-next : (a : Product) → t .stage ≡ stages.Ask a
+      → Shows o (onAnswer (t .card) (stateOf (t .run)) (a .0) (openedAnswer (t .card) (a .0))) → Shows o (nextOf (progressOf t))
   unfolding nextOf nextAt
   question-next a e s = rw e s
 
-  pub row-next : (p : ℕ) → t .stage ≡ stages.Row p → Shows o (onFetch (t .card) (stateOf (t .run)) p (fetchOf (stateOf (t .run)) p)) → Shows o (nextOf (progressOf t))
+  pub row-next : (p : ℕ) → t .stage ≡ stages.Row p → Shows o (onFetch (t .card) (stateOf (t .run)) p (fetchOf (stateOf (t .run)) p))
+      → Shows o (nextOf (progressOf t))
   unfolding nextOf nextAt
   row-next p e s = rw e s
 

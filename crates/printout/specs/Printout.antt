@@ -1,14 +1,14 @@
 -- The printout of a card (document 01, "One card through"), straight from the patterns of its points.
 --
---   roundsTo i E     == the products of rounds 1 .. i (document 01, "The run"): "Round i (1 to s) takes the rows found for P1 .. P(i−1), their
---                       adapted list A (for i = 1: product 0 alone), and asks every a in A with 3^(i−1) added, in order, then every a with
---                       2 × 3^(i−1) added"
---   questions s E    == all products, in order: "Round 0 asks product 0 .. If n is 0 the run is done with no rows"
+--   roundsTo i E                   == the products of rounds 1 .. i (document 01, "The run"): "Round i (1 to s) takes the rows found for P1
+--                                     .. P(i−1), their adapted list A (for i = 1: product 0 alone), and asks every a in A with 3^(i−1)
+--                                     added, in order, then every a with 2 × 3^(i−1) added"
+--   questions s E                  == all products, in order: "Round 0 asks product 0 .. If n is 0 the run is done with no rows"
 --   questionLines c ps, rowLines R == a Q line for each product with its query on the card c, and an S line for each row
---   soundLines c     == "a Q line for each question as it is asked, then an S line for each row in order, then the E line"
---   linesOf c        == the lines of the card c: "A refused card prints `R` and its number, as `R 5`, and no other line"
---   together ls      == the text of lines one after the other
---   printoutOf c     == the printout
+--   soundLines c                   == "a Q line for each question as it is asked, then an S line for each row in order, then the E line"
+--   linesOf c                      == the lines of the card c: "A refused card prints `R` and its number, as `R 5`, and no other line"
+--   together ls                    == the text of lines one after the other
+--   printoutOf c                   == the printout
 use mathlib.Core.List.{List, [], _∷_, _++_, map}
 use Prim.Native.Nat.{ℕ, zero, suc}
 use lib.ListN.{length}

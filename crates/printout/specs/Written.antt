@@ -1,10 +1,10 @@
 -- What a call for the whole printout gives (document 01, "Cause, and what the caller gets").
 --
---   mostLines         == 658, the most lines of a printout: 593 questions, 64 rows and the last line
---   mostText          == the room that so many lines need at most
---   placed t out      == where the text t fits the slice out: how many bytes it has, and the slice with t at its front, "Longer output slices keep what
---                        lies past the result"; else 15, too short, and the slice as it was
---   writtenOf c out   == the same of the printout of the card c
+--   mostLines       == 658, the most lines of a printout: 593 questions, 64 rows and the last line
+--   mostText        == the room that so many lines need at most
+--   placed t out    == where the text t fits the slice out: how many bytes it has, and the slice with t at its front, "Longer output slices
+--                      keep what lies past the result"; else 15, too short, and the slice as it was
+--   writtenOf c out == what the call for the printout of the card c gives, and the slice out after it
 use mathlib.Core.Bool.{cond}
 use mathlib.Core.List.{List, _++_}
 use Prim.Native.Nat.{ℕ, _+_, _*_}

@@ -5,7 +5,7 @@ ghost use mathlib.Core.Path.{_≡_};
 ghost use mathlib.Core.List.{_++_};
 ghost use Prim.Native.Nat.{_+_, _≤_};
 ghost use lib.ListN.{length, take};
-ghost use Rattle.query.specs.Opened.{answer as answerOn};
+ghost use Rattle.query.specs.Opened.{openedAnswer as answerOn};
 ghost use Rattle.rounds.specs.RoundEnd.{roundRows};
 ghost use Rattle.runs.specs.Run.{answerOf, fetchOf};
 ghost use Rattle.determination.specs.Record.{stateOf};
@@ -18,8 +18,8 @@ use determination::Run;
 use determination::Step;
 use lines::LINE_ROOM;
 use lines::Line;
-use query::Answer;
 use query::Opened;
+use query::Queried;
 use refusals::MOST_QUESTIONS;
 use refusals::MOST_ROWS;
 use refusals::PAST_LAST;
@@ -106,8 +106,8 @@ fn next_question(card: Opened, run: Run, a: Product) -> Printed
     ensures { λ r. ⌜ Shows r (onAnswer card (stateOf run) (a .0) (answerOn card (a .0))) ⌝ }
 {
     match query::ask(card, a) {
-        Answer::Number(z) => take_answer(card, run, a, z),
-        Answer::Refused(k) => with_line(card, run, Stage::Over, lines::refusal_line(k)),
+        Queried::Number(z) => take_answer(card, run, a, z),
+        Queried::Refused(k) => with_line(card, run, Stage::Over, lines::refusal_line(k)),
     }
 }
 

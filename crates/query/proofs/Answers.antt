@@ -1,5 +1,5 @@
--- What a query on a card shows, by cause (demand 1, "A refused card shows no query", and demand 2, first sentence), and that every number that refuses,
--- of an opened card too, whatever it holds, is one of document 01's table.
+-- What a query on a card shows, by cause (demand 1, "A refused card shows no query", and demand 2, first sentence), and that every number
+-- that refuses, of an opened card too, whatever it holds, is one of document 01's table.
 use mathlib.Core.Path.{_≡_, refl, ap, subst, _∙_}
 use mathlib.Core.Bool.{Bool, true, false, cond}
 use mathlib.Core.Logic.{_⊎_, inl, inr, ⊎-elim}
@@ -20,9 +20,9 @@ use Rattle.card.specs.Card.{refusal}
 use Rattle.card.specs.Sound.{Sound}
 use Rattle.card.proofs.Sound.{sound, unrefused}
 use Rattle.query.specs.declared.Opened.{Opened}
-use Rattle.query.specs.declared.Answer.the-variants as of-query
+use Rattle.query.specs.declared.Queried.the-variants as of-query
 use Rattle.query.specs.Query.{queryOf, patternsOf, queryAnswer}
-use Rattle.query.specs.Opened.{opened, unlimited, ownNumber, refusedBy, answer}
+use Rattle.query.specs.Opened.{opened, unlimited, ownNumber, refusedBy, openedAnswer}
 use Rattle.query.proofs.Opening.{answer-opened}
 
 module _ (c : List ℕ) (α : ℕ) where
@@ -84,8 +84,8 @@ causes zero true v h = inr (inl (record { stands = refl }))
 causes zero false true h = inr (inr refl)
 causes zero false false h = inl refl
 
-pub answer-listed : (o : Opened) (α m : ℕ) → answer o α ≡ of-query.Refused m → Listed m
-unfolding answer refusedBy
+pub answer-listed : (o : Opened) (α m : ℕ) → openedAnswer o α ≡ of-query.Refused m → Listed m
+unfolding openedAnswer refusedBy
 answer-listed o α m =
     listed (refusedBy o α) m _ (causes (ownNumber (o .refusal)) (unlimited o) (leb (3 ^ o .s) α) (own-listed (o .refusal)))
 

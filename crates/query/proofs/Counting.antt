@@ -1,9 +1,9 @@
--- The query of a product on an opened card by words: the points left, where the product is not 0, and among them those where an odd number of factors
--- is negative.
+-- The query of a product on an opened card by words: the points left, where the product is not 0, and among them those where an odd number
+-- of factors is negative.
 --
---   signAt l o     == the sign at a point by its bit l among the points left and its bit o among the odd ones
---   Kept P a rest j left odd == at each point of the opened card P the sign that these two words give, times the sign of the product `rest` of its first j
---                     polynomials, is the sign of the product a
+--   signAt l o               == the sign at a point by its bit l among the points left and its bit o among the odd ones
+--   Kept P a rest j left odd == at each point of the opened card P the sign that these two words give, times the sign of the product `rest`
+--                               of its first j polynomials, is the sign of the product a
 use mathlib.Core.Path.{_≡_, refl, sym, ap, ap₂, subst, _∙_}
 use mathlib.Core.Bool.{Bool, true, false, cond}
 use Prim.Native.Nat.{ℕ, zero, suc, _+_, _*_, _-_, _/_, _%_, _^_, _<_, _≤_, min, max}
@@ -85,7 +85,8 @@ sign-parts (suc (suc l)) o h g = absurd (omega arith)
 
 -- ---- all points at once
 
-left-bit : (b : Bool) (left p n k : ℕ) → bitAt (cond b left (bitAnd left (bitOr p n))) k ≡ cond b (bitAt left k) (min (bitAt left k) (max (bitAt p k) (bitAt n k)))
+left-bit : (b : Bool) (left p n k : ℕ) → bitAt (cond b left (bitAnd left (bitOr p n))) k
+    ≡ cond b (bitAt left k) (min (bitAt left k) (max (bitAt p k) (bitAt n k)))
 left-bit true left p n k = refl
 left-bit false left p n k = bit-and left (bitOr p n) k ∙ ap (min (bitAt left k)) (bit-or p n k)
 
@@ -128,14 +129,16 @@ pub record Kept (P : Opened) (a rest j left odd : ℕ) : Type 0 where
 
 module _ (P : Opened) (a : ℕ) where
   pub kept-none : Kept P a a (P .s) (2 ^ P .n - 1) 0
-  kept-none = record { small = ones-lt (P .n); at = λ k h. rw (bit-first (P .n) k h, bit-none k) (one-*ℤ (sign (P .s) a (columnTo P (P .s) k))) }
+  kept-none =
+      record { small = ones-lt (P .n); at = λ k h. rw (bit-first (P .n) k h, bit-none k) (one-*ℤ (sign (P .s) a (columnTo P (P .s) k))) }
 
   module _ (rest j left odd : ℕ) (fits : rest < 3 ^ suc j) where
     kept-sign : (k : ℕ) →
         let p = getD (P .positive) j 0 in
         let n = getD (P .negative) j 0 in
         let d = rest / 3 ^ j in
-        signAt (bitAt (cond (eqb d 0) left (bitAnd left (bitOr p n))) k) (bitAt (cond (eqb d 1) (bitXor odd n) odd) k) *ℤ sign j (rest % 3 ^ j) (columnTo P j k)
+        signAt (bitAt (cond (eqb d 0) left (bitAnd left (bitOr p n))) k) (bitAt (cond (eqb d 1) (bitXor odd n) odd) k) *ℤ sign j
+        (rest % 3 ^ j) (columnTo P j k)
         ≡ signAt (bitAt left k) (bitAt odd k) *ℤ sign (suc j) rest (columnTo P (suc j) k)
     unfolding sign columnTo
     kept-sign k =
@@ -149,7 +152,8 @@ module _ (P : Opened) (a : ℕ) where
         let z = sign j (rest % 3 ^ j) (columnTo P j k) in
         let l : d < 3 = div-lt-iff-lt-mul {k = 3 ^ j} {x = rest} {y = 3} (one-le-pow j 3 (omega arith)) .1 (omega (arith, pow-suc 3 j)) in
         ap (λ (w : ℤ). w *ℤ z) (ap₂ signAt (left-bit (eqb d 0) left p n k) (odd-bit (eqb d 1) odd n k)
-        ∙ factor d (bitAt p k) (bitAt n k) (bitAt left k) (bitAt odd k) l (bit-small p k) (bit-small n k) (bit-small left k) (bit-small odd k))
+        ∙ factor d (bitAt p k) (bitAt n k) (bitAt left k) (bitAt odd k) l (bit-small p k) (bit-small n k) (bit-small left k)
+        (bit-small odd k))
         ∙ *ℤ-assoc y x z
         ∙ *ℤ-left-comm y x z
         ∙ ap (_*ℤ_ x) (sym (rw (top j q b, low j q b) refl))
@@ -167,7 +171,8 @@ module _ (P : Opened) (a : ℕ) where
 
   -- the same of the numbers that the code has
   pub kept-off : (i j rest w d left odd left′ odd′ : ℕ) → j ≡ suc i → rest < 3 ^ j → w ≡ 3 ^ i → d ≡ rest / w →
-      left′ ≡ cond (eqb d 0) left (bitAnd left (bitOr (getD (P .positive) i 0) (getD (P .negative) i 0))) → odd′ ≡ cond (eqb d 1) (bitXor odd (getD (P .negative) i 0)) odd
+      left′ ≡ cond (eqb d 0) left (bitAnd left (bitOr (getD (P .positive) i 0) (getD (P .negative) i 0))) → odd′
+      ≡ cond (eqb d 1) (bitXor odd (getD (P .negative) i 0)) odd
       → Kept P a rest j left odd → Kept P a (rest - d * w) i left′ odd′
   kept-off i j rest w d left odd left′ odd′ ej fits ew ed el eo m =
       let o : rest - rest / 3 ^ i * 3 ^ i ≡ rest % 3 ^ i = omega (arith, div-add-mod' rest (3 ^ i)) in
@@ -199,7 +204,9 @@ module _ (l o : ℕ) where
   counted n h = rw (ones-bits n l h, ones-bits n (bitAnd l o) (omega (arith, and-le-l l o))) (tally n)
 
 -- the law: the words give the sum
-pub summed-words : (P : Opened) (a rest j left odd : ℕ) → Kept P a rest j left odd → j ≡ 0 → pos (ones left) -ℤ pos (2 * ones (bitAnd left odd)) ≡ summed P a
+pub summed-words : (P : Opened) (a rest j left odd : ℕ) → Kept P a rest j left odd → j ≡ 0
+    → pos (ones left) -ℤ pos (2 * ones (bitAnd left odd)) ≡ summed P a
 unfolding summed sign
-summed-words P a rest zero left odd m e = counted left odd (P .n) (m .small) ∙ sumTo-ext _ _ (P .n) (λ k g. sym (*ℤ-1 (signAt (bitAt left k) (bitAt odd k))) ∙ m .at k g)
+summed-words P a rest zero left odd m e =
+    counted left odd (P .n) (m .small) ∙ sumTo-ext _ _ (P .n) (λ k g. sym (*ℤ-1 (signAt (bitAt left k) (bitAt odd k))) ∙ m .at k g)
 summed-words P a rest (suc j) left odd m e = absurd (omega arith)

@@ -11,12 +11,13 @@ use lib.ListN.{take}
 use Rattle.integers.specs.Sums.{sumℤ, sumTo}
 use Rattle.signs.specs.Lists.{upTo}
 use Rattle.integers.specs.Powers.{power}
-use Rattle.signs.specs.Signs.{sign-digit}
+use Rattle.signs.specs.Signs.{signDigit}
 use Rattle.contents.specs.Contents.{productTo, queryIn, patternTo, patternsIn}
 use Rattle.layout.specs.Format.{two's, offset, word}
 use Rattle.layout.specs.Values.{value}
-use Rattle.card.specs.Card.{some, contents, header, polynomial, coefficients, bodies, last, refusal}
-use Rattle.query.specs.declared.Answer.the-variants as of-query
+use Rattle.card.specs.Card.{anyBelow, contentsRefusal, headerRefusal, polynomialRefusal, coefficientsRefusal, bodiesRefusal, pointsRefusal}
+use Rattle.card.specs.Card.{refusal}
+use Rattle.query.specs.declared.Queried.the-variants as of-query
 use Rattle.query.specs.Query.{patternsOf, queryAnswer}
 
 abbrev pub example : List ℕ
@@ -49,8 +50,8 @@ pub record QueryEdges : Type 0 where
   pub card-first : queryAnswer (take 41 example) 27 ≡ of-query.Refused 1
 
 pub query-edges : QueryEdges
-unfolding queryAnswer queryIn productTo patternsIn patternTo upTo sumℤ sumTo power value sign-digit offset two's word
-    refusal header contents bodies polynomial coefficients last some
+unfolding queryAnswer queryIn productTo patternsIn patternTo upTo sumℤ sumTo power value signDigit offset two's word
+    refusal headerRefusal contentsRefusal bodiesRefusal polynomialRefusal coefficientsRefusal pointsRefusal anyBelow
 query-edges =
     record {
       printed = refl;

@@ -20,13 +20,13 @@ use Rattle.integers.specs.Sums.{sumTo}
 use Rattle.integers.proofs.Sums.{sumTo-ext, sumTo-list}
 use Rattle.integers.proofs.Tests.{eq-cases}
 use Rattle.signs.specs.Lists.{Below, upTo}
-use Rattle.signs.specs.Signs.{sign, sign-digit}
+use Rattle.signs.specs.Signs.{sign, signDigit}
 use Rattle.signs.specs.Bits.{bitOf}
 use Rattle.signs.proofs.Digitwise.{bit-le}
 use Rattle.signs.proofs.SignDigits.{digit-small}
 use Rattle.contents.specs.Contents.{Contents, patternTo, valuesAt, productValue, queryIn}
 use Rattle.contents.proofs.Patterns.{map-below, sgn-product}
-use Rattle.layout.specs.Format.{polynomials, points}
+use Rattle.layout.specs.Format.{polynomials, pointCount}
 use Rattle.layout.specs.Contents.{contentsOf}
 use Rattle.layout.proofs.Contents.{upTo-long, map-upTo-at, points-long}
 use Rattle.layout.proofs.Twos.{below-or}
@@ -37,11 +37,11 @@ use Rattle.card.specs.Sound.{Sound}
 use Rattle.card.proofs.Sound.{sound, unrefused}
 use Rattle.card.proofs.Listed.{refusal-listed}
 use Rattle.query.specs.declared.Opened.{Opened}
-use Rattle.query.specs.declared.Answer.{Answer}
-use Rattle.query.specs.declared.Answer.the-variants as of-query
+use Rattle.query.specs.declared.Queried.{Queried}
+use Rattle.query.specs.declared.Queried.the-variants as of-query
 use Rattle.query.specs.Query.{queryAnswer}
-use Rattle.query.specs.Opened.{bitAt, pointBits, signWord, wordIn, wordsIn, digitBy, columnTo, evaluated, refused, opened}
-use Rattle.query.specs.Opened.{summed, unlimited, ownNumber, refusedBy, answer}
+use Rattle.query.specs.Opened.{bitAt, pointBits, signWord, wordIn, wordsIn, digitBy, columnTo, openedSound, openedRefused, opened}
+use Rattle.query.specs.Opened.{summed, unlimited, ownNumber, refusedBy, openedAnswer}
 use Rattle.query.proofs.Words.{word-bit}
 
 -- ---- the lists
@@ -72,7 +72,10 @@ module _ {X : Type 0} (K : Contents X) (d : ℕ) where
   pub filled-next : (s : ℕ) (l : List ℕ) (v : ℕ) → Filled K d s l → s < mostPolynomials → v ≡ signWord K d s
       → Filled K d (s + 1) (set l s v)
   filled-next s l v m h e =
-      rw (add-one s) (record { long = simp length-set (m .long); at = λ j. ⊎-elim (λ w. here j (w .0)) (λ w. other j (w .0)) (eq-cases j s) })
+      rw (add-one s) (record {
+        long = simp length-set (m .long);
+        at = λ j. ⊎-elim (λ w. here j (w .0)) (λ w. other j (w .0)) (eq-cases j s);
+      })
     where
       here : (j : ℕ) → j ≡ s → getD (set l s v) j 0 ≡ wordIn K d (suc s) j
       here j x =
@@ -82,7 +85,8 @@ module _ {X : Type 0} (K : Contents X) (d : ℕ) where
       other : (j : ℕ) → (j ≡ s → ⊥) → getD (set l s v) j 0 ≡ wordIn K d (suc s) j
       other j x =
           getD-set-other l s j v 0 x ∙ m .at j
-          ∙ ⊎-elim (λ g. word-in s j g ∙ sym (word-in (suc s) j (omega arith))) (λ g. word-past s j g ∙ sym (word-past (suc s) j (omega arith)))
+          ∙ ⊎-elim (λ g. word-in s j g ∙ sym (word-in (suc s) j (omega arith)))
+          (λ g. word-past s j g ∙ sym (word-past (suc s) j (omega arith)))
           (below-or j s)
 
   words-at : (j : ℕ) → j < mostPolynomials → getD (wordsIn K d) j 0 ≡ wordIn K d (K .s) j
@@ -101,50 +105,50 @@ module _ {X : Type 0} (K : Contents X) (d : ℕ) where
   -- each is a bit
   pub bits-small : (j : ℕ) → Below 2 (pointBits K d j)
   bits-small j =
-      map-below (λ x. bitOf (sign-digit (K .value j x)) d) 2 (λ x. omega (arith, bit-le (sign-digit (K .value j x)) d)) (K .points)
+      map-below (λ x. bitOf (signDigit (K .value j x)) d) 2 (λ x. omega (arith, bit-le (signDigit (K .value j x)) d)) (K .points)
 
 -- ---- the opened card
 
 pub evaluated-is : {X : Type 0} (K : Contents X) (s n : ℕ) (positive negative : List ℕ) → s ≡ K .s → n ≡ length (K .points)
     → Filled K 1 s positive → Filled K 2 s negative
-    → _≡_ {A = Opened} (record { refusal = 0; s = s; n = n; positive = positive; negative = negative }) (evaluated K)
+    → _≡_ {A = Opened} (record { refusal = 0; s = s; n = n; positive = positive; negative = negative }) (openedSound K)
 evaluated-is K s n positive negative es en m₁ m₂ =
     let e₁ = filled-all K 1 s positive es m₁ in
     let e₂ = filled-all K 2 s negative es m₂ in
     rw (e₁, e₂, es, en) refl
 
-pub opened-sound : (c : List ℕ) → refusal c ≡ 0 → opened c ≡ evaluated (contentsOf c)
+pub opened-sound : (c : List ℕ) → refusal c ≡ 0 → opened c ≡ openedSound (contentsOf c)
 unfolding opened
 opened-sound c e = rw e refl
 
-pub opened-refused : (c : List ℕ) (m : ℕ) → refusal c ≡ m → (m ≡ 0 → ⊥) → opened c ≡ refused m
+pub opened-refused : (c : List ℕ) (m : ℕ) → refusal c ≡ m → (m ≡ 0 → ⊥) → opened c ≡ openedRefused m
 unfolding opened
 opened-refused c zero e h = absurd (h refl)
 opened-refused c (suc m) e h = rw e refl
 
 -- what `card::read` gives is what is opened
-pub opened-read : (c : List ℕ) (m : ℕ) → reading c ≡ card.Refused m → refused m ≡ opened c
+pub opened-read : (c : List ℕ) (m : ℕ) → reading c ≡ card.Refused m → openedRefused m ≡ opened c
 unfolding reading opened
 opened-read c m = go (refusal c)
   where
-    go : (k : ℕ) → unless k card.Refused (card.Sound (polynomials c) (points c)) ≡ card.Refused m
-        → refused m ≡ unless k refused (evaluated (contentsOf c))
+    go : (k : ℕ) → unless k card.Refused (card.Sound (polynomials c) (pointCount c)) ≡ card.Refused m
+        → openedRefused m ≡ unless k openedRefused (openedSound (contentsOf c))
     go zero e = let z : _≡_ {A = ℕ} 0 1 = cc in absurd (omega arith)
-    go (suc k) e = let z : m ≡ suc k = cc in ap refused z
+    go (suc k) e = let z : m ≡ suc k = cc in ap openedRefused z
 
 -- ---- what an opened card answers
 
-own : (m x : ℕ) (a : Answer) → (m ≡ 0 → ⊥) → of-query.Refused m ≡ unless (m ▸ x) of-query.Refused a
+own : (m x : ℕ) (a : Queried) → (m ≡ 0 → ⊥) → of-query.Refused m ≡ unless (m ▸ x) of-query.Refused a
 own zero x a h = absurd (h refl)
 own (suc m) x a h = refl
 
 -- its own number, or 3 where that is no card's
-own-card : (m x : ℕ) (a : Answer) → (m ≡ 0 → ⊥) → isAmong m cardNumbers ≡ true
+own-card : (m x : ℕ) (a : Queried) → (m ≡ 0 → ⊥) → isAmong m cardNumbers ≡ true
     → of-query.Refused m ≡ unless (ownNumber m ▸ x) of-query.Refused a
 own-card zero x a z h = absurd (z refl)
 own-card (suc m) x a z h = rw h refl
 
-own-other : (m x : ℕ) (a : Answer) → (m ≡ 0 → ⊥) → isAmong m cardNumbers ≡ false
+own-other : (m x : ℕ) (a : Queried) → (m ≡ 0 → ⊥) → isAmong m cardNumbers ≡ false
     → of-query.Refused wrongCount ≡ unless (ownNumber m ▸ x) of-query.Refused a
 own-other zero x a z h = absurd (z refl)
 own-other (suc m) x a z h = rw h refl
@@ -166,25 +170,25 @@ pub limits : (s n : ℕ) → 1 ≤ s → s ≤ mostPolynomials → n ≤ mostPoi
 limits s n l m h = rw (le-ltb s 1 l, le-ltb mostPolynomials s m, le-ltb mostPoints n h) refl
 
 module _ (o : Opened) (α : ℕ) where
-  pub answer-foreign : (o .refusal ≡ 0 → ⊥) → isAmong (o .refusal) cardNumbers ≡ false → of-query.Refused wrongCount ≡ answer o α
-  unfolding answer refusedBy
+  pub answer-foreign : (o .refusal ≡ 0 → ⊥) → isAmong (o .refusal) cardNumbers ≡ false → of-query.Refused wrongCount ≡ openedAnswer o α
+  unfolding openedAnswer refusedBy
   answer-foreign z h = own-other (o .refusal) _ _ z h
 
-  pub answer-own : (o .refusal ≡ 0 → ⊥) → isAmong (o .refusal) cardNumbers ≡ true → of-query.Refused (o .refusal) ≡ answer o α
-  unfolding answer refusedBy
+  pub answer-own : (o .refusal ≡ 0 → ⊥) → isAmong (o .refusal) cardNumbers ≡ true → of-query.Refused (o .refusal) ≡ openedAnswer o α
+  unfolding openedAnswer refusedBy
   answer-own z h = own-card (o .refusal) _ _ z h
 
-  pub answer-limits : o .refusal ≡ 0 → unlimited o ≡ true → of-query.Refused wrongCount ≡ answer o α
-  unfolding answer refusedBy
+  pub answer-limits : o .refusal ≡ 0 → unlimited o ≡ true → of-query.Refused wrongCount ≡ openedAnswer o α
+  unfolding openedAnswer refusedBy
   answer-limits e u = rw (e, u) refl
 
-  pub answer-product : o .refusal ≡ 0 → unlimited o ≡ false → 3 ^ o .s ≤ α → of-query.Refused wrongProduct ≡ answer o α
-  unfolding answer refusedBy
+  pub answer-product : o .refusal ≡ 0 → unlimited o ≡ false → 3 ^ o .s ≤ α → of-query.Refused wrongProduct ≡ openedAnswer o α
+  unfolding openedAnswer refusedBy
   answer-product e u h = rw (e, u, le-leb (3 ^ o .s) α h) refl
 
   pub answer-number : o .refusal ≡ 0 → unlimited o ≡ false → α < 3 ^ o .s
-      → of-query.Number (summed o α) ≡ answer o α
-  unfolding answer refusedBy
+      → of-query.Number (summed o α) ≡ openedAnswer o α
+  unfolding openedAnswer refusedBy
   answer-number e u h = rw (e, u, lt-leb (3 ^ o .s) α h) refl
 
 -- ---- the law: opened once or not, the answer is the same
@@ -208,20 +212,20 @@ place (x ∷ l) (suc k) h = let p = place l k (omega arith) in record { x = p .x
 
 module _ {X : Type 0} (K : Contents X) (few-s : K .s ≤ mostPolynomials) where
   module _ (k : ℕ) (p : Place (K .points) k) where
-    bit-there : (d j : ℕ) → j < K .s → bitAt (getD (wordsIn K d) j 0) k ≡ bitOf (sign-digit (K .value j (p .x))) d
+    bit-there : (d j : ℕ) → j < K .s → bitAt (getD (wordsIn K d) j 0) k ≡ bitOf (signDigit (K .value j (p .x))) d
     bit-there d j b =
         ap (λ (w : ℕ). bitAt w k) (words-at K d j (omega arith) ∙ word-in K d (K .s) j b)
         ∙ word-bit (pointBits K d j) (bits-small K d j) k
-        ∙ p .there (λ x. bitOf (sign-digit (K .value j x)) d) 0
+        ∙ p .there (λ x. bitOf (signDigit (K .value j x)) d) 0
 
-    column-is : (s : ℕ) → s ≤ K .s → columnTo (evaluated K) s k ≡ patternTo (valuesAt K (p .x)) s
+    column-is : (s : ℕ) → s ≤ K .s → columnTo (openedSound K) s k ≡ patternTo (valuesAt K (p .x)) s
     unfolding columnTo patternTo
     column-is zero b = refl
     column-is (suc s) b =
         let v = K .value s (p .x) in
-        rw (column-is s (omega arith), bit-there 1 s b, bit-there 2 s b, digit-bits (sign-digit v) (digit-small v)) refl
+        rw (column-is s (omega arith), bit-there 1 s b, bit-there 2 s b, digit-bits (signDigit v) (digit-small v)) refl
 
-  pub summed-is : (α : ℕ) → summed (evaluated K) α ≡ queryIn K α
+  pub summed-is : (α : ℕ) → summed (openedSound K) α ≡ queryIn K α
   unfolding summed queryIn
   summed-is α =
       sumTo-ext _ (λ k. getD L k (pos 0)) (length (K .points)) at
@@ -234,7 +238,7 @@ module _ {X : Type 0} (K : Contents X) (few-s : K .s ≤ mostPolynomials) where
       L : List ℤ
       L = map sign-there (K .points)
 
-      at : (k : ℕ) → k < length (K .points) → sign (K .s) α (columnTo (evaluated K) (K .s) k) ≡ getD L k (pos 0)
+      at : (k : ℕ) → k < length (K .points) → sign (K .s) α (columnTo (openedSound K) (K .s) k) ≡ getD L k (pos 0)
       at k g =
           let p = place (K .points) k g in
           ap (sign (K .s) α) (column-is k p (K .s) (omega arith))
@@ -242,26 +246,27 @@ module _ {X : Type 0} (K : Contents X) (few-s : K .s ≤ mostPolynomials) where
           ∙ sym (p .there sign-there (pos 0))
 
 module _ (c : List ℕ) (α : ℕ) where
-  answer-sound : Sound c → answer (evaluated (contentsOf c)) α ≡ queryAnswer c α
+  answer-sound : Sound c → openedAnswer (openedSound (contentsOf c)) α ≡ queryAnswer c α
   unfolding queryAnswer
   answer-sound h =
       let K = contentsOf c in
       let u = limits (polynomials c) (length (K .points)) (h .s-least) (h .s-most) (omega (arith, points-long c, h .n-most)) in
       let e = unrefused c h in
       ⊎-elim (λ b. rw (e, lt-leb (3 ^ polynomials c) α b)
-      (sym (answer-number (evaluated K) α refl u b) ∙ ap of-query.Number (summed-is K (h .s-most) α)))
-      (λ b. rw (e, le-leb (3 ^ polynomials c) α b) (sym (answer-product (evaluated K) α refl u b))) (below-or α (3 ^ polynomials c))
+      (sym (answer-number (openedSound K) α refl u b) ∙ ap of-query.Number (summed-is K (h .s-most) α)))
+      (λ b. rw (e, le-leb (3 ^ polynomials c) α b) (sym (answer-product (openedSound K) α refl u b))) (below-or α (3 ^ polynomials c))
 
   -- a refused card's number is a card's
   refused-among : (refusal c ≡ 0 → ⊥) → isAmong (refusal c) cardNumbers ≡ true
   unfolding isAmong
   refused-among h = rw (ne-eqb (refusal c) 0 h) at (refusal-listed c .stands)
 
-  answer-refused : (refusal c ≡ 0 → ⊥) → answer (refused (refusal c)) α ≡ queryAnswer c α
+  answer-refused : (refusal c ≡ 0 → ⊥) → openedAnswer (openedRefused (refusal c)) α ≡ queryAnswer c α
   unfolding queryAnswer
-  answer-refused h = sym (answer-own (refused (refusal c)) α h (refused-among h)) ∙ own (refusal c) _ _ h
+  answer-refused h = sym (answer-own (openedRefused (refusal c)) α h (refused-among h)) ∙ own (refusal c) _ _ h
 
-  pub answer-opened : answer (opened c) α ≡ queryAnswer c α
+  pub answer-opened : openedAnswer (opened c) α ≡ queryAnswer c α
   answer-opened =
-      ⊎-elim (λ w. ap (λ (o : Opened). answer o α) (opened-sound c (w .0)) ∙ answer-sound (sound c (w .0)))
-      (λ w. ap (λ (o : Opened). answer o α) (opened-refused c (refusal c) refl (w .0)) ∙ answer-refused (w .0)) (eq-cases (refusal c) 0)
+      ⊎-elim (λ w. ap (λ (o : Opened). openedAnswer o α) (opened-sound c (w .0)) ∙ answer-sound (sound c (w .0)))
+      (λ w. ap (λ (o : Opened). openedAnswer o α) (opened-refused c (refusal c) refl (w .0)) ∙ answer-refused (w .0))
+      (eq-cases (refusal c) 0)

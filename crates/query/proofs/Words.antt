@@ -25,7 +25,8 @@ unfolding bitAt
 bit-and a b k =
     let x = a / 2 ^ k in
     let y = b / 2 ^ k in
-    ap (λ (z : ℕ). z % 2) (and-shr a b k ∙ and-step x y) ∙ digits-mod (bitAnd (x / 2) (y / 2)) {m = 2} {r = min (x % 2) (y % 2)} (omega arith)
+    ap (λ (z : ℕ). z % 2) (and-shr a b k ∙ and-step x y)
+    ∙ digits-mod (bitAnd (x / 2) (y / 2)) {m = 2} {r = min (x % 2) (y % 2)} (omega arith)
 
 pub bit-or : (a b k : ℕ) → bitAt (bitOr a b) k ≡ max (bitAt a k) (bitAt b k)
 unfolding bitAt

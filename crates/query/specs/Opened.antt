@@ -1,23 +1,24 @@
 -- An opened card, and the query by its words. That the answer of an opened card is `queryAnswer` of the card is a law, and so is that the
 -- operations on words give the sum.
 --
---   bitAt w k       == bit k of the word w
---   wordOf l        == the word whose bit k is element k of l, for a list of bits
---   pointBits K d j == of each point of the contents K: 1 where the sign digit of polynomial j there is d, else 0
---   signWord K d j  == the points where the sign digit of polynomial j is d, one bit each
---   wordIn K d s j  == the same for the first s polynomials, and 0 for those after them
---   wordsIn K d     == these words for all polynomials, eight in all
---   evaluated K     == the contents K opened: s, n and the words of the signs, + and −
---   refused m       == a card refused by the number m: no polynomials and no points
---   opened c        == the card c opened
---   digitBy u v     == the sign digit where the bit of `positive` is u and that of `negative` is v: 2 where v is set, else u
---   columnTo o s k  == the pattern number of point k: of the first s polynomials, the sign digit that bit k of their words says
---   summed o α      == the sum of the signs of the product α over the points of the opened card o, by their columns
---   unlimited o     == s is outside 1 .. 8, or n is above 64
---   ownNumber m     == by what an opened card with the number m is refused: by m, but by 3 where m is neither 0 nor a card's
---   refusedBy o α   == the number that refuses the opened card o or the product α, or 0: its own, then 3 where s or n is outside its limits,
---                      then 13 for the product. No card opens to a number of none or outside the limits: an opened card may hold anything
---   answer o α      == what an opened card answers: that number, else the sum
+--   bitAt w k        == bit k of the word w
+--   wordOf l         == the word whose bit k is element k of l, for a list of bits
+--   pointBits K d j  == of each point of the contents K: 1 where the sign digit of polynomial j there is d, else 0
+--   signWord K d j   == the points where the sign digit of polynomial j is d, one bit each
+--   wordIn K d s j   == the word of signs d of polynomial j where j is below s, and 0 from s on
+--   wordsIn K d      == these words for all polynomials, eight in all
+--   openedSound K    == the contents K opened: s, n and the words of the signs, + and −
+--   openedRefused m  == a card refused by the number m: no polynomials and no points
+--   opened c         == the card c opened
+--   digitBy u v      == the sign digit where the bit of `positive` is u and that of `negative` is v: 2 where v is set, else u
+--   columnTo o s k   == the pattern number of point k: of the first s polynomials, the sign digit that bit k of their words says
+--   summed o α       == the sum of the signs of the product α over the points of the opened card o, by their columns
+--   unlimited o      == s is outside 1 .. 8, or n is above 64
+--   ownNumber m      == by what an opened card with the number m is refused: by m, but by 3 where m is neither 0 nor a card's
+--   refusedBy o α    == the number that refuses the opened card o or the product α, or 0: its own, then 3 where s or n is outside its
+--                       limits, then 13 for the product. No card opens to a number of none or outside the limits: an opened card may hold
+--                       anything
+--   openedAnswer o α == what an opened card answers: that number, else the sum
 use mathlib.Core.Bool.{Bool, cond, _||_}
 use mathlib.Core.List.{List, [], _∷_, map}
 use Prim.Native.Nat.{ℕ, zero, suc, _+_, _*_, _/_, _%_, _^_}
@@ -28,13 +29,13 @@ use Rattle.refusals.specs.Numbers.{wrongCount, wrongProduct, cardNumbers, isAmo
 use Rattle.refusals.specs.Limits.{mostPolynomials, mostPoints}
 use Rattle.integers.specs.Sums.{sumTo}
 use Rattle.signs.specs.Lists.{upTo}
-use Rattle.signs.specs.Signs.{sign, sign-digit}
+use Rattle.signs.specs.Signs.{sign, signDigit}
 use Rattle.signs.specs.Bits.{bitOf}
 use Rattle.contents.specs.Contents.{Contents}
 use Rattle.layout.specs.Contents.{contentsOf}
 use Rattle.card.specs.Card.{refusal}
-use Rattle.query.specs.declared.Answer.{Answer}
-use Rattle.query.specs.declared.Answer.the-variants as of-query
+use Rattle.query.specs.declared.Queried.{Queried}
+use Rattle.query.specs.declared.Queried.the-variants as of-query
 use Rattle.query.specs.declared.Opened as opened-card
 
 -- ---- words
@@ -50,7 +51,7 @@ wordOf (b ∷ l) = 2 * wordOf l + b
 
 module _ {X : Type 0} where
   abbrev pub pointBits : Contents X → ℕ → ℕ → List ℕ
-  pointBits K d j = map (λ x. bitOf (sign-digit (K .value j x)) d) (K .points)
+  pointBits K d j = map (λ x. bitOf (signDigit (K .value j x)) d) (K .points)
 
   abbrev pub signWord : Contents X → ℕ → ℕ → ℕ
   signWord K d j = wordOf (pointBits K d j)
@@ -61,14 +62,14 @@ module _ {X : Type 0} where
   unfoldable pub wordsIn : Contents X → ℕ → List ℕ
   wordsIn K d = map (wordIn K d (K .s)) (upTo mostPolynomials)
 
-  abbrev pub evaluated : Contents X → opened-card.Opened
-  evaluated K = record { refusal = 0; s = K .s; n = length (K .points); positive = wordsIn K 1; negative = wordsIn K 2 }
+  abbrev pub openedSound : Contents X → opened-card.Opened
+  openedSound K = record { refusal = 0; s = K .s; n = length (K .points); positive = wordsIn K 1; negative = wordsIn K 2 }
 
-abbrev pub refused : ℕ → opened-card.Opened
-refused m = record { refusal = m; s = 0; n = 0; positive = replicate mostPolynomials 0; negative = replicate mostPolynomials 0 }
+abbrev pub openedRefused : ℕ → opened-card.Opened
+openedRefused m = record { refusal = m; s = 0; n = 0; positive = replicate mostPolynomials 0; negative = replicate mostPolynomials 0 }
 
 unfoldable pub opened : List ℕ → opened-card.Opened
-opened c = unless (refusal c) refused (evaluated (contentsOf c))
+opened c = unless (refusal c) openedRefused (openedSound (contentsOf c))
 
 -- ---- what it answers
 
@@ -94,5 +95,5 @@ refusedBy o α =
     ▸ wrongCount when unlimited o
     ▸ wrongProduct when leb (3 ^ o .s) α
 
-unfoldable pub answer : opened-card.Opened → ℕ → Answer
-answer o α = unless (refusedBy o α) of-query.Refused (of-query.Number (summed o α))
+unfoldable pub openedAnswer : opened-card.Opened → ℕ → Queried
+openedAnswer o α = unless (refusedBy o α) of-query.Refused (of-query.Number (summed o α))

@@ -1,7 +1,7 @@
 -- The Tarski query of a product on a card (document 000, section 3.2; document 01, "Patterns and products"): that of the card's contents.
 --
---   queryOf c α     == the query of the product α on the card c: the sum over its points of the sign of the product's value, a point counted
---                      as often as it stands on the card
+--   queryOf c α     == the query of the product α on the card c: the sum over its points of the sign of the product's value, a point
+--                      counted as often as it stands on the card
 --   patternsOf c    == the patterns of the card's points, in the card's order
 --   queryAnswer c α == what is shown: the number that refuses the card, then that of the product, else the query
 use mathlib.Core.List.{List}
@@ -13,8 +13,8 @@ use Rattle.contents.specs.Contents.{queryIn, patternsIn}
 use Rattle.layout.specs.Format.{polynomials}
 use Rattle.layout.specs.Contents.{contentsOf}
 use Rattle.card.specs.Card.{refusal}
-use Rattle.query.specs.declared.Answer.{Answer}
-use Rattle.query.specs.declared.Answer.the-variants as of-query
+use Rattle.query.specs.declared.Queried.{Queried}
+use Rattle.query.specs.declared.Queried.the-variants as of-query
 
 abbrev pub queryOf : List ℕ → ℕ → ℤ
 queryOf c α = queryIn (contentsOf c) α
@@ -22,5 +22,5 @@ queryOf c α = queryIn (contentsOf c) α
 abbrev pub patternsOf : List ℕ → List ℕ
 patternsOf c = patternsIn (contentsOf c)
 
-unfoldable pub queryAnswer : List ℕ → ℕ → Answer
+unfoldable pub queryAnswer : List ℕ → ℕ → Queried
 queryAnswer c α = unless (refusal c ▸ wrongProduct when leb (3 ^ polynomials c) α) of-query.Refused (of-query.Number (queryOf c α))

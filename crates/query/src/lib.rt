@@ -10,10 +10,10 @@ ghost use lib.Count.{ones};
 ghost use lib.Dec.{eqb};
 ghost use lib.IntN.{pos, _-ℤ_};
 ghost use Rattle.refusals.specs.Limits.{mostPolynomials, mostPoints};
-ghost use Rattle.layout.specs.Format.{polynomials, points, points-at};
+ghost use Rattle.layout.specs.Format.{polynomials, pointCount, pointsAt};
 ghost use Rattle.layout.specs.Contents.{contentsOf};
 ghost use Rattle.card.specs.Sound.{Sound};
-ghost use Rattle.query.specs.Opened.{signWord, evaluated, opened, summed, answer};
+ghost use Rattle.query.specs.Opened.{signWord, openedSound, opened, summed, openedAnswer};
 ghost use Rattle.query.specs.Query.{queryAnswer};
 use card::Card;
 use refusals::MOST_POINTS;
@@ -29,7 +29,7 @@ use signs::power;
 const EVERY: u64 = 0xffff_ffff_ffff_ffff;
 
 // The query of a product, or the number that refuses the card or the product.
-pub enum Answer {
+pub enum Queried {
     Number(i64),
     Refused(u16),
 }
@@ -53,10 +53,10 @@ struct Signs {
 
 // The signs of polynomial j at the n points, which begin at byte from, the last point first.
 fn mark(card: &[u8], j: usize, from: usize, n: usize) -> Signs
-    requires { ⌜ Sound (now card) × (j < polynomials (now card)) × (from ≡ points-at (now card)) × (n ≡ points (now card)) ⌝ }
+    requires { ⌜ Sound (now card) × (j < polynomials (now card)) × (from ≡ pointsAt (now card)) × (n ≡ pointCount (now card)) ⌝ }
     ensures { λ r. ⌜ (r .positive ≡ signWord (contentsOf (now (card .entry))) 1 j) × (r .negative ≡ signWord (contentsOf (now (card .entry))) 2 j) ⌝ }
 {
-    let p = layout::polynomial(card, layout::offset(card, j));
+    let p = layout::coefficients(card, layout::offset(card, j));
     let mut positive: u64 = 0;
     let mut negative: u64 = 0;
     let mut k = n;
@@ -73,9 +73,9 @@ fn mark(card: &[u8], j: usize, from: usize, n: usize) -> Signs
 }
 
 // A sound card of s polynomials and n points, opened.
-fn evaluate(card: &[u8], s: usize, n: usize) -> Opened
-    requires { ⌜ Sound (now card) × (s ≡ polynomials (now card)) × (n ≡ points (now card)) ⌝ }
-    ensures { λ r. ⌜ r ≡ evaluated (contentsOf (now (card .entry))) ⌝ }
+fn open_sound(card: &[u8], s: usize, n: usize) -> Opened
+    requires { ⌜ Sound (now card) × (s ≡ polynomials (now card)) × (n ≡ pointCount (now card)) ⌝ }
+    ensures { λ r. ⌜ r ≡ openedSound (contentsOf (now (card .entry))) ⌝ }
 {
     let from = layout::offset(card, s);
     let mut positive = [0u64; MOST_POLYNOMIALS];
@@ -102,7 +102,7 @@ pub fn open(card: &[u8]) -> Opened
     ensures { λ r. ⌜ r ≡ opened (now (card .entry)) ⌝ }
 {
     match card::read(card) {
-        Card::Sound { s, n } => evaluate(card, s, n),
+        Card::Sound { s, n } => open_sound(card, s, n),
         Card::Refused(m) => Opened {
             refusal: m,
             s: 0,
@@ -114,7 +114,7 @@ pub fn open(card: &[u8]) -> Opened
 }
 
 // The first n points, one bit each.
-fn first(n: usize) -> u64
+fn first_points(n: usize) -> u64
     requires { ⌜ n ≤ mostPoints ⌝ }
     ensures { λ r. ⌜ r ≡ 2 ^ n - 1 ⌝ }
 {
@@ -156,7 +156,7 @@ fn sum(card: Opened, a: u16) -> i64
     requires { ⌜ (card .s ≤ mostPolynomials) × (card .n ≤ mostPoints) × (a < 3 ^ card .s) ⌝ }
     ensures { λ r. ⌜ r ≡ summed card a ⌝ }
 {
-    let mut left = first(card.n);
+    let mut left = first_points(card.n);
     let mut odd: u64 = 0;
     let mut rest = a;
     let mut j = card.s;
@@ -173,32 +173,32 @@ fn sum(card: Opened, a: u16) -> i64
 
 // The query of a product on an opened card. The card's own number comes first, then 13 for a product number above 3^s − 1. An opened card that `open`
 // could not have left, by its number, s or n, gets 3.
-pub fn ask(card: Opened, a: Product) -> Answer
-    ensures { λ r. ⌜ r ≡ answer card (a .0) ⌝ }
+pub fn ask(card: Opened, a: Product) -> Queried
+    ensures { λ r. ⌜ r ≡ openedAnswer card (a .0) ⌝ }
 {
     if card.refusal != NONE {
         if refusals::is_card_number(card.refusal) {
-            return Answer::Refused(card.refusal);
+            return Queried::Refused(card.refusal);
         }
-        return Answer::Refused(WRONG_COUNT);
+        return Queried::Refused(WRONG_COUNT);
     }
     if card.s < 1 {
-        return Answer::Refused(WRONG_COUNT);
+        return Queried::Refused(WRONG_COUNT);
     }
     if MOST_POLYNOMIALS < card.s {
-        return Answer::Refused(WRONG_COUNT);
+        return Queried::Refused(WRONG_COUNT);
     }
     if MOST_POINTS < card.n {
-        return Answer::Refused(WRONG_COUNT);
+        return Queried::Refused(WRONG_COUNT);
     }
     if power(card.s) <= a.0 {
-        return Answer::Refused(WRONG_PRODUCT);
+        return Queried::Refused(WRONG_PRODUCT);
     }
-    Answer::Number(sum(card, a.0))
+    Queried::Number(sum(card, a.0))
 }
 
 // The query of a product on a card, in one call: the number that refuses the card, then 13 for a product number above 3^s − 1, else the query.
-pub fn query(card: &[u8], a: Product) -> Answer
+pub fn query(card: &[u8], a: Product) -> Queried
     ensures { λ r. ⌜ r ≡ queryAnswer (now (card .entry)) (a .0) ⌝ }
 {
     ask(open(card), a)

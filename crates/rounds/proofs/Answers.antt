@@ -10,23 +10,26 @@ use lib.IntN.{ℤ, pos}
 use lib.ListN.{length, replicate, length-append, length-replicate}
 use Rattle.refusals.specs.Limits.{mostPoints}
 use Rattle.integers.proofs.Diff.{Diff, diff-one}
-use Rattle.signs.specs.Adapted.{adapted, lows, signsOf, extended}
+use Rattle.signs.specs.Adapted.{adapted, restrictions, signsOf, extended}
 use Rattle.signs.specs.Lists.{times, Below, Rising, shift}
 use Rattle.signs.specs.Signs.{sign, query}
 use Rattle.signs.proofs.Blocks.{adapted-cases, adapted-below}
 use Rattle.signs.proofs.Digits.{digits}
 use Rattle.signs.proofs.Extend.{Over, extended-over, times-extended}
-use Rattle.signs.proofs.Lists.{times-nil, times-same, times-one, times-append, times-shift, times-shift-low, shift-holds, lows-holds}
+use Rattle.signs.proofs.Lists.{times-nil, times-same, times-one, times-append, times-shift, times-shift-low, shift-holds}
+use Rattle.signs.proofs.Lists.{restrictions-holds}
 use Rattle.signs.proofs.Monotone.{Within, adapted-mono}
 use Rattle.signs.proofs.Queries.{counts, query-tally}
-use Rattle.signs.proofs.Size.{Under, below-under, as-many, adapted-rising, rising-shift, rising-once, rising-length, length-shift, total-mono, total-thirds}
+use Rattle.signs.proofs.Size.{Under, below-under, as-many, adapted-rising, rising-shift, rising-once, rising-length, length-shift}
+use Rattle.signs.proofs.Size.{total-mono, total-thirds}
 use Rattle.signs.proofs.Tallies.{tally, Agree, none, plus, tally-plus}
 use Rattle.signs.proofs.Unique.{unique}
 use Rattle.rounds.specs.Rounds.{roundOf, Counts, Answered, Determined}
-use Rattle.rounds.specs.Rows.{Row, patterns, points, Positive, IsRows, rowIf, Fits}
+use Rattle.rounds.specs.Rows.{Row, patterns, repeated, Positive, IsRows, rowIf, Fits}
 use Rattle.rounds.specs.Rows.{restrict}
 use Rattle.rounds.proofs.Restrict.{three-pos, sign-drop, restrict-below, restrict-count, query-drop, fits-same, fits-move, fits-left}
-use Rattle.rounds.proofs.RowLaws.{times-single, no-count, no-pattern, rowIf-same, points-in, patterns-in, points-below, length-patterns}
+use Rattle.rounds.proofs.RowLaws.{times-single, no-count, no-pattern, rowIf-same, points-in, patterns-in, points-below}
+use Rattle.rounds.proofs.RowLaws.{length-patterns}
 
 -- ---- product 0 counts the points
 
@@ -41,9 +44,9 @@ query-zero s (σ ∷ E) = rw (sign-zero s σ, query-zero s E) (ap pos (omega ari
 
 -- ---- the products of a round
 
-lows-over : (k i : ℕ) (L P : List ℕ) → 1 ≤ k → Over i L P → Within (lows k i L) P
-lows-over k i L P h o q m =
-    let (b, e) = lows-holds k i L q m in
+restrictions-over : (k i : ℕ) (L P : List ℕ) → 1 ≤ k → Over i L P → Within (restrictions k i L) P
+restrictions-over k i L P h o q m =
+    let (b, e) = restrictions-holds k i L q m in
     o q b (unfold signsOf in omega arith)
 
 -- the adapted list of such an L is asked, in this round or before
@@ -54,12 +57,12 @@ cover-over i L P ps o w α h = go (adapted-cases i α L h)
     A : List ℕ
     A = adapted i P
 
-    up : (k : ℕ) → 1 ≤ k → (a : ℕ) → 0 < times a (adapted i (lows k i L)) → 0 < times a A
-    up k h = adapted-mono i (lows k i L) P (lows-over k i L P h o)
+    up : (k : ℕ) → 1 ≤ k → (a : ℕ) → 0 < times a (adapted i (restrictions k i L)) → 0 < times a A
+    up k h = adapted-mono i (restrictions k i L) P (restrictions-over k i L P h o)
 
-    go : (0 < times α (adapted i (lows 1 i L)))
-        ⊎ (((a : ℕ) × (α ≡ a + 3 ^ i) × (0 < times a (adapted i (lows 2 i L))))
-        ⊎ ((a : ℕ) × (α ≡ a + 2 * 3 ^ i) × (0 < times a (adapted i (lows 3 i L)))))
+    go : (0 < times α (adapted i (restrictions 1 i L)))
+        ⊎ (((a : ℕ) × (α ≡ a + 3 ^ i) × (0 < times a (adapted i (restrictions 2 i L))))
+        ⊎ ((a : ℕ) × (α ≡ a + 2 * 3 ^ i) × (0 < times a (adapted i (restrictions 3 i L)))))
         → 0 < times α (ps ++ (shift (3 ^ i) A ++ shift (2 * 3 ^ i) A))
     go (inl a) = omega (arith, times-append α ps (shift (3 ^ i) A ++ shift (2 * 3 ^ i) A), w α (up 1 (omega arith) α a))
     go (inr (inl (a, e, m))) =
@@ -107,7 +110,8 @@ round-once i P α = go (decLt α (2 * 3 ^ i)) (decLt 0 (times α B))
     C = shift (2 * 3 ^ i) A
 
     go : Dec (α < 2 * 3 ^ i) → Dec (0 < times α B) → times α (B ++ C) ≤ 1
-    go (yes h) d = omega (arith, times-append α B C, times-shift-low (2 * 3 ^ i) α A h, rising-once B (rising-shift (3 ^ i) A (adapted-rising i P)) α)
+    go (yes h) d =
+        omega (arith, times-append α B C, times-shift-low (2 * 3 ^ i) α A h, rising-once B (rising-shift (3 ^ i) A (adapted-rising i P)) α)
     go (no h) (yes k) = let (a, e, m) = shift-holds (3 ^ i) α A k in absurd (omega (arith, adapted-below i a P m))
     go (no h) (no k) = omega (arith, times-append α B C, rising-once C (rising-shift (2 * 3 ^ i) A (adapted-rising i P)) α)
 
@@ -128,8 +132,8 @@ round-length i R r =
 pub record Facts (i : ℕ) (zs : List ℤ) (ps : List ℕ) (R : List Row) : Type 0 where
   pub rows : IsRows i R
   -- the rows fit all answers so far, and whatever fits them has the rows' counts
-  pub fits : Fits i (points R) ps zs
-  pub only : (E : List ℕ) → Below (3 ^ i) E → Fits i E ps zs → Agree i (counts E) (counts (points R))
+  pub fits : Fits i (repeated R) ps zs
+  pub only : (E : List ℕ) → Below (3 ^ i) E → Fits i E ps zs → Agree i (counts E) (counts (repeated R))
   -- the products asked are those of P1 .. Pi, none twice, and the rows' adapted list is among them
   pub cover : Within (adapted i (patterns R)) ps
   pub under : Under (3 ^ i) ps
@@ -145,15 +149,16 @@ pub record Facts (i : ℕ) (zs : List ℤ) (ps : List ℕ) (R : List Row) : Type
   pub first-product : ps ≡ 0 ∷ later-products
 
 -- round 0
-length-points : (n : ℕ) → length (points (rowIf 0 n)) ≡ n
-unfolding points rowIf
+length-points : (n : ℕ) → length (repeated (rowIf 0 n)) ≡ n
+unfolding repeated rowIf
 length-points zero = refl
 length-points (suc k) = omega (arith, length-append {A = ℕ} (replicate (suc k) 0) [], length-replicate {A = ℕ} (suc k) 0)
 
 rowIf-rows : (n : ℕ) → IsRows 0 (rowIf 0 n)
 unfolding rowIf patterns Rising Below Positive
 rowIf-rows zero = record { rising = tt; below = tt; positive = tt }
-rowIf-rows (suc k) = record { rising = ((λ y h. absurd (omega (arith, times-nil y))), tt); below = (omega arith, tt); positive = (omega arith, tt) }
+rowIf-rows (suc k) =
+    record { rising = ((λ y h. absurd (omega (arith, times-nil y))), tt); below = (omega arith, tt); positive = (omega arith, tt) }
 
 all-zero : (E : List ℕ) → Below 1 E → times 0 E ≡ length E
 unfolding Below
@@ -231,7 +236,8 @@ same-tally i α E E′ a b b′ e =
     halves : (p n : ℕ → ℕ) → tally i α p n ≡ tally i α p none + tally i α none n
     halves p n = ap₂ (tally i α) (sym (plus-none p)) (sym (none-plus n)) ∙ tally-plus i α p none none n
 
-pub third : (i : ℕ) (E : List ℕ) (q r d : ℕ) → d < 3 → q ≡ r + d * 3 ^ i → times r E + times (r + 3 ^ i) E + times (r + 2 * 3 ^ i) E ≡ 0 → times q E ≡ 0
+pub third : (i : ℕ) (E : List ℕ) (q r d : ℕ) → d < 3 → q ≡ r + d * 3 ^ i → times r E + times (r + 3 ^ i) E + times (r + 2 * 3 ^ i) E ≡ 0
+    → times q E ≡ 0
 third i E q r zero hd e z = let f : q ≡ r = omega arith in rw f (omega arith)
 third i E q r (suc zero) hd e z = let f : q ≡ r + 3 ^ i = omega arith in rw f (omega arith)
 third i E q r (suc (suc zero)) hd e z = rw e (omega arith)
@@ -246,12 +252,13 @@ module _ (i : ℕ) (zs : List ℤ) (ps : List ℕ) (R : List Row) (a : Answered 
   fits-before : (E : List ℕ) → Fits (suc i) E ps zs → Fits i (restrict i E) (a .asked) (a .before)
   fits-before E f =
       let f′ : Fits (suc i) E (a .asked ++ roundOf i (patterns (a .rows))) (a .before ++ a .now) = rw (← a .products, ← a .answers) f in
-      fits-move (suc i) i E (restrict i E) (a .asked) (a .before) (fits-left (suc i) E (a .asked) (roundOf i (patterns (a .rows))) (a .before) (a .now) (F .lengths) f′)
+      fits-move (suc i) i E (restrict i E) (a .asked) (a .before)
+      (fits-left (suc i) E (a .asked) (roundOf i (patterns (a .rows))) (a .before) (a .now) (F .lengths) f′)
       (λ α m. query-drop i α E (F .under α m))
 
   -- so its counts add up to those of the rows before
   sums : (E : List ℕ) → Below (3 ^ suc i) E → Fits (suc i) E ps zs → (q : ℕ) → q < 3 ^ i
-      → times q E + times (q + 3 ^ i) E + times (q + 2 * 3 ^ i) E ≡ times q (points (a .rows))
+      → times q E + times (q + 3 ^ i) E + times (q + 2 * 3 ^ i) E ≡ times q (repeated (a .rows))
   sums E b f q h = sym (restrict-count i q E h b) ∙ F .only (restrict i E) (restrict-below i E) (fits-before E f) q h
 
   -- and it has no count outside the rows before, each extended
@@ -262,32 +269,33 @@ module _ (i : ℕ) (zs : List ℤ) (ps : List ℕ) (R : List Row) (a : Answered 
       go (r, d, hr, hd, e) =
           third i E q r d hd e (omega (arith, sums E b f r hr, no-count (a .rows) r (extended-out i q r d P hd e o)))
 
-  below-R : Below (3 ^ suc i) (points R)
+  below-R : Below (3 ^ suc i) (repeated R)
   below-R = points-below (3 ^ suc i) R (c .rows .below)
 
   all-lengths : length ps ≡ length zs
   all-lengths =
-      rw (a .products, a .answers) (omega (arith, length-append (a .asked) (roundOf i P), length-append (a .before) (a .now), F .lengths, a .all))
+      rw (a .products, a .answers)
+      (omega (arith, length-append (a .asked) (roundOf i P), length-append (a .before) (a .now), F .lengths, a .all))
 
   P-under : Under (3 ^ i) P
   P-under = below-under (3 ^ i) P (F .rows .below)
 
-  only-next : (E : List ℕ) → Below (3 ^ suc i) E → Fits (suc i) E ps zs → Agree (suc i) (counts E) (counts (points R))
+  only-next : (E : List ℕ) → Below (3 ^ suc i) E → Fits (suc i) E ps zs → Agree (suc i) (counts E) (counts (repeated R))
   only-next E b f =
-      unique (suc i) (extended i P) (counts E) (counts (points R))
-      (λ q h o. outside E b f q h o ∙ sym (outside (points R) below-R (c .give) q h o))
+      unique (suc i) (extended i P) (counts E) (counts (repeated R))
+      (λ q h o. outside E b f q h o ∙ sym (outside (repeated R) below-R (c .give) q h o))
       (λ α m.
       let asked : 0 < times α ps = rw (a .products) (cover-over i (extended i P) P (a .asked) (extended-over i P P-under) (F .cover) α m) in
-      same-tally (suc i) α E (points R) (adapted-below (suc i) α (extended i P) m) b below-R
-      (fits-same (suc i) (suc i) E (points R) ps zs all-lengths f (c .give) α asked))
+      same-tally (suc i) α E (repeated R) (adapted-below (suc i) α (extended i P) m) b below-R
+      (fits-same (suc i) (suc i) E (repeated R) ps zs all-lengths f (c .give) α asked))
 
   R-over : Over i (patterns R) P
-  R-over q h k = patterns-from (decLt 0 (times q (points (a .rows))))
+  R-over q h k = patterns-from (decLt 0 (times q (repeated (a .rows))))
     where
-      three : times q (points R) + times (q + 3 ^ i) (points R) + times (q + 2 * 3 ^ i) (points R) ≡ times q (points (a .rows))
-      three = sums (points R) below-R (c .give) q h
+      three : times q (repeated R) + times (q + 3 ^ i) (repeated R) + times (q + 2 * 3 ^ i) (repeated R) ≡ times q (repeated (a .rows))
+      three = sums (repeated R) below-R (c .give) q h
 
-      patterns-from : Dec (0 < times q (points (a .rows))) → 0 < times q P
+      patterns-from : Dec (0 < times q (repeated (a .rows))) → 0 < times q P
       patterns-from (yes m) = points-in q (a .rows) m
       patterns-from (no m) =
           absurd (omega (
@@ -307,22 +315,28 @@ module _ (i : ℕ) (zs : List ℤ) (ps : List ℕ) (R : List Row) (a : Answered 
         rising-length (3 ^ i) P (F .rows .rising) (F .rows .below),
         rising-length (3 ^ suc i) (patterns R) (c .rows .rising) (c .rows .below),
         total-thirds i (λ q. min 1 (times q (patterns R))),
-        total-mono (λ q. min 1 (times q P)) (λ q. min 1 (times q (patterns R)) + min 1 (times (q + 3 ^ i) (patterns R)) + min 1 (times (q + 2 * 3 ^ i) (patterns R)))
+        total-mono (λ q. min 1 (times q P))
+            (λ q. min 1 (times q (patterns R)) + min 1 (times (q + 3 ^ i) (patterns R)) + min 1 (times (q + 2 * 3 ^ i) (patterns R)))
             (3 ^ i) each,
       )
     where
       each : (q : ℕ) → q < 3 ^ i
-          → min 1 (times q P) ≤ min 1 (times q (patterns R)) + min 1 (times (q + 3 ^ i) (patterns R)) + min 1 (times (q + 2 * 3 ^ i) (patterns R))
-      each q h = go (decLt 0 (times q P)) (decLt 0 (times q (points R))) (decLt 0 (times (q + 3 ^ i) (points R))) (decLt 0 (times (q + 2 * 3 ^ i) (points R)))
+          → min 1 (times q P) ≤ min 1 (times q (patterns R)) + min 1 (times (q + 3 ^ i) (patterns R))
+          + min 1 (times (q + 2 * 3 ^ i) (patterns R))
+      each q h =
+          go (decLt 0 (times q P)) (decLt 0 (times q (repeated R))) (decLt 0 (times (q + 3 ^ i) (repeated R)))
+          (decLt 0 (times (q + 2 * 3 ^ i) (repeated R)))
         where
-          go : Dec (0 < times q P) → Dec (0 < times q (points R)) → Dec (0 < times (q + 3 ^ i) (points R)) → Dec (0 < times (q + 2 * 3 ^ i) (points R))
-              → min 1 (times q P) ≤ min 1 (times q (patterns R)) + min 1 (times (q + 3 ^ i) (patterns R)) + min 1 (times (q + 2 * 3 ^ i) (patterns R))
+          go : Dec (0 < times q P) → Dec (0 < times q (repeated R)) → Dec (0 < times (q + 3 ^ i) (repeated R))
+              → Dec (0 < times (q + 2 * 3 ^ i) (repeated R))
+              → min 1 (times q P) ≤ min 1 (times q (patterns R)) + min 1 (times (q + 3 ^ i) (patterns R))
+              + min 1 (times (q + 2 * 3 ^ i) (patterns R))
           go (no k) x y z = omega arith
           go (yes k) (yes x) y z = omega (arith, points-in q R x)
           go (yes k) (no x) (yes y) z = omega (arith, points-in (q + 3 ^ i) R y)
           go (yes k) (no x) (no y) (yes z) = omega (arith, points-in (q + 2 * 3 ^ i) R z)
           go (yes k) (no x) (no y) (no z) =
-              absurd (omega (arith, sums (points R) below-R (c .give) q h, patterns-in q (a .rows) (F .rows .positive) k))
+              absurd (omega (arith, sums (repeated R) below-R (c .give) q h, patterns-in q (a .rows) (F .rows .positive) k))
 
   facts-next : Facts (suc i) zs ps R
   facts-next =

@@ -29,11 +29,13 @@ use Rattle.solutions.specs.Solver.{Weight, andThen, values, solverOf}
 use Rattle.solutions.proofs.Solve.{tally-diff}
 use Rattle.solutions.proofs.SolverRight.{values-length, values-weight, some-same, solver-found}
 use Rattle.signs.proofs.Weights.{weighted-tally, diff-parts, part, part-first, part-later, part-out}
-use Rattle.rounds.specs.Rows.{Row, patterns, points, Positive, IsRows, IsAt, rowIf, Fits}
+use Rattle.rounds.specs.Rows.{Row, patterns, repeated, Positive, IsRows, IsAt, rowIf, Fits}
 use Rattle.rounds.specs.Rounds.{roundOf}
 use Rattle.rounds.specs.NextRows.{NextRows}
-use Rattle.rounds.specs.Moments.{withZero, withPlus, withMinus, fair, allFair, thirds, extendedRows, judged, byMoments}
-use Rattle.rounds.proofs.RowLaws.{zero-unless, no-points, points-same, points-other, points-append, patterns-append, rowIf-same, rowIf-other, rowIf-positive, rowIf-rising, rowIf-in, positive-append, no-count, points-below, length-patterns}
+use Rattle.rounds.specs.Moments.{withZero, withPlus, withMinus, splits, allSplit, extendedBy, extendedRows, judged, byMoments}
+use Rattle.rounds.proofs.RowLaws.{zero-unless, no-points, points-same, points-other, points-append, patterns-append, rowIf-same}
+use Rattle.rounds.proofs.RowLaws.{rowIf-other, rowIf-positive, rowIf-rising, rowIf-in, positive-append, no-count, points-below}
+use Rattle.rounds.proofs.RowLaws.{length-patterns}
 use Rattle.rounds.proofs.Realized.{at-head, at-tail, at-in, count-of}
 use Rattle.rounds.proofs.Restrict.{fits-append, fits-left, fits-right}
 use Rattle.rounds.proofs.Answers.{round-length}
@@ -54,9 +56,9 @@ not-negative : (z : ℤ) → dn z ≤ up z → (natAbs z ≡ up z) × (dn z ≡ 
 not-negative (pos n) h = (refl, refl)
 not-negative (negsuc n) h = absurd (omega arith)
 
-pub fair-yes : (d : ℕ) (e g : ℤ) → fair d e g ≡ true → Fair d e g
-unfolding fair
-fair-yes d e g t =
+pub splits-yes : (d : ℕ) (e g : ℤ) → splits d e g ≡ true → Fair d e g
+unfolding splits
+splits-yes d e g t =
     let (abc, p) = both (leZ g (pos d) && leZ (pos 0) (g +ℤ e) && leZ (pos 0) (g -ℤ e)) (eqb (natAbs (g +ℤ e) % 2) 0) t in
     let (ab, c) = both (leZ g (pos d) && leZ (pos 0) (g +ℤ e)) (leZ (pos 0) (g -ℤ e)) abc in
     let (a, b) = both (leZ g (pos d)) (leZ (pos 0) (g +ℤ e)) ab in
@@ -71,9 +73,9 @@ fair-yes d e g t =
     }
 
 -- three counts pass it
-fair-from : (d n₀ n₁ n₂ : ℕ) (e g : ℤ) → d ≡ n₀ + n₁ + n₂ → up e + n₂ ≡ n₁ + dn e → up g ≡ n₁ + n₂ + dn g → fair d e g ≡ true
-unfolding fair
-fair-from d n₀ n₁ n₂ e g h k l = rw (a, b, c, even) refl
+splits-from : (d n₀ n₁ n₂ : ℕ) (e g : ℤ) → d ≡ n₀ + n₁ + n₂ → up e + n₂ ≡ n₁ + dn e → up g ≡ n₁ + n₂ + dn g → splits d e g ≡ true
+unfolding splits
+splits-from d n₀ n₁ n₂ e g h k l = rw (a, b, c, even) refl
   where
     a : leZ g (pos d) ≡ true
     a = true-leZ g (pos d) (omega arith)
@@ -97,7 +99,7 @@ at : (ℕ → ℤ → ℤ → ℕ) → List Row → List ℤ → List ℤ → �
 at f [] es gs x = 0
 at f (r ∷ R) [] gs x = 0
 at f (r ∷ R) (e ∷ es) [] x = 0
-at f (r ∷ R) (e ∷ es) (g ∷ gs) x = times x (points (rowIf (r .pattern) (f (r .count) e g))) + at f R es gs x
+at f (r ∷ R) (e ∷ es) (g ∷ gs) x = times x (repeated (rowIf (r .pattern) (f (r .count) e g))) + at f R es gs x
 
 at-same : (f : ℕ → ℤ → ℤ → ℕ) (r : Row) (R : List Row) (e g : ℤ) (es gs : List ℤ)
     → at f (r ∷ R) (e ∷ es) (g ∷ gs) (r .pattern) ≡ f (r .count) e g + at f R es gs (r .pattern)
@@ -109,22 +111,23 @@ at-other : (f : ℕ → ℤ → ℤ → ℕ) (r : Row) (R : List Row) (e g : ℤ
 unfolding at
 at-other f r R e g es gs x h = omega (arith, rowIf-other x (r .pattern) (f (r .count) e g) h)
 
-rowIf-shift : (c x q k : ℕ) → times (x + c) (points (rowIf (q + c) k)) ≡ times x (points (rowIf q k))
+rowIf-shift : (c x q k : ℕ) → times (x + c) (repeated (rowIf (q + c) k)) ≡ times x (repeated (rowIf q k))
 rowIf-shift c x q k = go (ℕ-discrete x q)
   where
-    go : Dec (x ≡ q) → times (x + c) (points (rowIf (q + c) k)) ≡ times x (points (rowIf q k))
+    go : Dec (x ≡ q) → times (x + c) (repeated (rowIf (q + c) k)) ≡ times x (repeated (rowIf q k))
     go (yes e) = rw e (rowIf-same (q + c) k ∙ sym (rowIf-same q k))
     go (no e) = rowIf-other (x + c) (q + c) k (omega arith) ∙ sym (rowIf-other x q k e)
 
-thirds-at : (c : ℕ) (f : ℕ → ℤ → ℤ → ℕ) (R : List Row) (es gs : List ℤ) (x : ℕ) → times (x + c) (points (thirds c f R es gs)) ≡ at f R es gs x
-unfolding thirds at
+thirds-at : (c : ℕ) (f : ℕ → ℤ → ℤ → ℕ) (R : List Row) (es gs : List ℤ) (x : ℕ) → times (x + c) (repeated (extendedBy c f R es gs))
+    ≡ at f R es gs x
+unfolding extendedBy at
 thirds-at c f [] es gs x = no-points (x + c)
 thirds-at c f (r ∷ R) [] gs x = no-points (x + c)
 thirds-at c f (r ∷ R) (e ∷ es) [] x = no-points (x + c)
 thirds-at c f (r ∷ R) (e ∷ es) (g ∷ gs) x =
     omega (
       arith,
-      points-append (x + c) (rowIf (r .pattern + c) (f (r .count) e g)) (thirds c f R es gs),
+      points-append (x + c) (rowIf (r .pattern + c) (f (r .count) e g)) (extendedBy c f R es gs),
       rowIf-shift c x (r .pattern) (f (r .count) e g),
       thirds-at c f R es gs x,
     )
@@ -133,9 +136,9 @@ no-pattern-here : (y : ℕ) → times y (patterns []) ≡ 0
 unfolding patterns
 no-pattern-here y = times-nil y
 
-thirds-in : (c : ℕ) (f : ℕ → ℤ → ℤ → ℕ) (R : List Row) (es gs : List ℤ) (y : ℕ) → 0 < times y (patterns (thirds c f R es gs))
+thirds-in : (c : ℕ) (f : ℕ → ℤ → ℤ → ℕ) (R : List Row) (es gs : List ℤ) (y : ℕ) → 0 < times y (patterns (extendedBy c f R es gs))
     → (x : ℕ) × (y ≡ x + c) × (0 < times x (patterns R))
-unfolding thirds
+unfolding extendedBy
 thirds-in c f [] es gs y h = absurd (omega (arith, no-pattern-here y))
 thirds-in c f (r ∷ R) [] gs y h = absurd (omega (arith, no-pattern-here y))
 thirds-in c f (r ∷ R) (e ∷ es) [] y h = absurd (omega (arith, no-pattern-here y))
@@ -151,25 +154,26 @@ thirds-in c f (r ∷ R) (e ∷ es) (g ∷ gs) y h = go (decLt 0 (times y (patter
     more x m = unfold patterns in omega (arith, times-append x (r .pattern ∷ []) (patterns R))
 
     go : Dec (0 < times y (patterns (rowIf (r .pattern + c) k)))
-        → (0 < times y (patterns (thirds c f R es gs)) → (x : ℕ) × (y ≡ x + c) × (0 < times x (patterns R)))
+        → (0 < times y (patterns (extendedBy c f R es gs)) → (x : ℕ) × (y ≡ x + c) × (0 < times x (patterns R)))
         → (x : ℕ) × (y ≡ x + c) × (0 < times x (patterns (r ∷ R)))
     go (yes m) ih = (r .pattern, rowIf-in (r .pattern + c) k y m, first)
     go (no m) ih =
         let (x, a, b) = ih (omega (
           arith,
-          ap (times y) (patterns-append (rowIf (r .pattern + c) k) (thirds c f R es gs)),
-          times-append y (patterns (rowIf (r .pattern + c) k)) (patterns (thirds c f R es gs)),
+          ap (times y) (patterns-append (rowIf (r .pattern + c) k) (extendedBy c f R es gs)),
+          times-append y (patterns (rowIf (r .pattern + c) k)) (patterns (extendedBy c f R es gs)),
         )) in
         (x, a, more x b)
 
-thirds-rising : (c : ℕ) (f : ℕ → ℤ → ℤ → ℕ) (R : List Row) (es gs : List ℤ) → Rising (patterns R) → Rising (patterns (thirds c f R es gs))
-unfolding thirds
+thirds-rising : (c : ℕ) (f : ℕ → ℤ → ℤ → ℕ) (R : List Row) (es gs : List ℤ) → Rising (patterns R)
+    → Rising (patterns (extendedBy c f R es gs))
+unfolding extendedBy
 thirds-rising c f [] es gs u = u
 thirds-rising c f (r ∷ R) [] gs u = unfold patterns Rising in tt
 thirds-rising c f (r ∷ R) (e ∷ es) [] u = unfold patterns Rising in tt
 thirds-rising c f (r ∷ R) (e ∷ es) (g ∷ gs) u =
     rw patterns-append
-    (rising-append (patterns (rowIf (r .pattern + c) k)) (patterns (thirds c f R es gs)) (rowIf-rising (r .pattern + c) k)
+    (rising-append (patterns (rowIf (r .pattern + c) k)) (patterns (extendedBy c f R es gs)) (rowIf-rising (r .pattern + c) k)
     (thirds-rising c f R es gs (rest .1)) (λ x y h m. above x y (rowIf-in (r .pattern + c) k x h) (thirds-in c f R es gs y m)))
   where
     k : ℕ
@@ -181,30 +185,31 @@ thirds-rising c f (r ∷ R) (e ∷ es) (g ∷ gs) u =
     above : (x y : ℕ) → x ≡ r .pattern + c → (z : ℕ) × (y ≡ z + c) × (0 < times z (patterns R)) → x < y
     above x y a (z, b, m) = omega (arith, rest .0 z m)
 
-thirds-positive : (c : ℕ) (f : ℕ → ℤ → ℤ → ℕ) (R : List Row) (es gs : List ℤ) → Positive (thirds c f R es gs)
-unfolding thirds
+thirds-positive : (c : ℕ) (f : ℕ → ℤ → ℤ → ℕ) (R : List Row) (es gs : List ℤ) → Positive (extendedBy c f R es gs)
+unfolding extendedBy
 thirds-positive c f [] es gs = unfold Positive in tt
 thirds-positive c f (r ∷ R) [] gs = unfold Positive in tt
 thirds-positive c f (r ∷ R) (e ∷ es) [] = unfold Positive in tt
 thirds-positive c f (r ∷ R) (e ∷ es) (g ∷ gs) =
-    positive-append (rowIf (r .pattern + c) (f (r .count) e g)) (thirds c f R es gs) (rowIf-positive (r .pattern + c) (f (r .count) e g)) (thirds-positive c f R es gs)
+    positive-append (rowIf (r .pattern + c) (f (r .count) e g)) (extendedBy c f R es gs)
+    (rowIf-positive (r .pattern + c) (f (r .count) e g)) (thirds-positive c f R es gs)
 
 -- no count outside
 thirds-none : (c : ℕ) (f : ℕ → ℤ → ℤ → ℕ) (R : List Row) (es gs : List ℤ) (y : ℕ) → ((x : ℕ) → y ≡ x + c → 0 < times x (patterns R) → ⊥)
-    → times y (points (thirds c f R es gs)) ≡ 0
+    → times y (repeated (extendedBy c f R es gs)) ≡ 0
 thirds-none c f R es gs y h =
-    no-count (thirds c f R es gs) y
-    (zero-unless (times y (patterns (thirds c f R es gs))) (λ m. let (x, a, b) = thirds-in c f R es gs y m in h x a b))
+    no-count (extendedBy c f R es gs) y
+    (zero-unless (times y (patterns (extendedBy c f R es gs))) (λ m. let (x, a, b) = thirds-in c f R es gs y m in h x a b))
 
--- ---- what holds of the three counts at each pattern, where all rows are fair
+-- ---- what holds of the three counts at each pattern, where all rows are splits
 
 record ThreeAt (R : List Row) (es gs : List ℤ) (x : ℕ) : Type 0 where
-  adds : at withZero R es gs x + at withPlus R es gs x + at withMinus R es gs x ≡ times x (points R)
+  adds : at withZero R es gs x + at withPlus R es gs x + at withMinus R es gs x ≡ times x (repeated R)
   less : at withPlus R es gs x + part dn (patterns R) es x ≡ at withMinus R es gs x + part up (patterns R) es x
   and : at withPlus R es gs x + at withMinus R es gs x + part dn (patterns R) gs x ≡ part up (patterns R) gs x
 
-three-at : (R : List Row) (es gs : List ℤ) → allFair R es gs ≡ true → (x : ℕ) → ThreeAt R es gs x
-unfolding allFair patterns
+three-at : (R : List Row) (es gs : List ℤ) → allSplit R es gs ≡ true → (x : ℕ) → ThreeAt R es gs x
+unfolding allSplit patterns
 three-at [] es gs t x =
     record {
       adds = unfold at in omega (arith, no-points x);
@@ -214,8 +219,8 @@ three-at [] es gs t x =
 three-at (r ∷ R) [] gs t x = let y : _≡_ {A = ℕ} 0 1 = cc in absurd (omega arith)
 three-at (r ∷ R) (e ∷ es) [] t x = let y : _≡_ {A = ℕ} 0 1 = cc in absurd (omega arith)
 three-at (r ∷ R) (e ∷ es) (g ∷ gs) t x =
-    let (a, b) = both (fair (r .count) e g) (allFair R es gs) t in
-    go (ℕ-discrete x (r .pattern)) (fair-yes (r .count) e g a) (three-at R es gs b)
+    let (a, b) = both (splits (r .count) e g) (allSplit R es gs) t in
+    go (ℕ-discrete x (r .pattern)) (splits-yes (r .count) e g a) (three-at R es gs b)
   where
     q : ℕ
     q = r .pattern
@@ -260,13 +265,13 @@ module _ (i : ℕ) (R : List Row) (es gs : List ℤ) (rows : IsRows i R) where
 
   -- the three blocks
   abbrev B₀ : List Row
-  B₀ = thirds 0 withZero R es gs
+  B₀ = extendedBy 0 withZero R es gs
 
   abbrev B₁ : List Row
-  B₁ = thirds (3 ^ i) withPlus R es gs
+  B₁ = extendedBy (3 ^ i) withPlus R es gs
 
   abbrev B₂ : List Row
-  B₂ = thirds (2 * 3 ^ i) withMinus R es gs
+  B₂ = extendedBy (2 * 3 ^ i) withMinus R es gs
 
   in-0 : (y : ℕ) → 0 < times y (patterns B₀) → y < 3 ^ i
   in-0 y h = let (x, a, m) = thirds-in 0 withZero R es gs y h in omega (arith, under x m)
@@ -296,7 +301,9 @@ module _ (i : ℕ) (R : List Row) (es gs : List ℤ) (rows : IsRows i R) where
             (rising-append (patterns B₁) (patterns B₂) (thirds-rising (3 ^ i) withPlus R es gs (rows .rising))
             (thirds-rising (2 * 3 ^ i) withMinus R es gs (rows .rising)) (λ x y h k. omega (arith, in-1 x h, in-2 y k)))
             (λ x y h k. omega (arith, in-0 x h, in-12 y k)));
-        below = rw blocks (under-below (3 ^ suc i) (patterns B₀ ++ (patterns B₁ ++ patterns B₂)) (λ y h. all y h (decLt 0 (times y (patterns B₀)))));
+        below =
+            rw blocks (under-below (3 ^ suc i) (patterns B₀ ++ (patterns B₁ ++ patterns B₂))
+            (λ y h. all y h (decLt 0 (times y (patterns B₀)))));
         positive = unfold extendedRows in
             positive-append B₀ (B₁ ++ B₂) (thirds-positive 0 withZero R es gs)
             (positive-append B₁ B₂ (thirds-positive (3 ^ i) withPlus R es gs) (thirds-positive (2 * 3 ^ i) withMinus R es gs));
@@ -307,31 +314,37 @@ module _ (i : ℕ) (R : List Row) (es gs : List ℤ) (rows : IsRows i R) where
       all y h (no k) = omega (arith, in-12 y (omega (arith, times-append y (patterns B₀) (patterns B₁ ++ patterns B₂))))
 
   -- the count at each pattern
-  X-times : (y : ℕ) → times y (points X) ≡ times y (points B₀) + (times y (points B₁) + times y (points B₂))
+  X-times : (y : ℕ) → times y (repeated X) ≡ times y (repeated B₀) + (times y (repeated B₁) + times y (repeated B₂))
   unfolding extendedRows
   X-times y = omega (arith, points-append y B₀ (B₁ ++ B₂), points-append y B₁ B₂)
 
-  none-0 : (y : ℕ) → 3 ^ i ≤ y → times y (points B₀) ≡ 0
+  none-0 : (y : ℕ) → 3 ^ i ≤ y → times y (repeated B₀) ≡ 0
   none-0 y h = no-count B₀ y (zero-unless (times y (patterns B₀)) (λ k. let l : y < 3 ^ i = in-0 y k in omega arith))
 
-  none-1 : (y : ℕ) → (y < 3 ^ i) ⊎ (2 * 3 ^ i ≤ y) → times y (points B₁) ≡ 0
+  none-1 : (y : ℕ) → (y < 3 ^ i) ⊎ (2 * 3 ^ i ≤ y) → times y (repeated B₁) ≡ 0
   none-1 y (inl h) = no-count B₁ y (zero-unless (times y (patterns B₁)) (λ k. let (a, b) = in-1 y k in omega arith))
   none-1 y (inr h) = no-count B₁ y (zero-unless (times y (patterns B₁)) (λ k. let (a, b) = in-1 y k in omega arith))
 
-  none-2 : (y : ℕ) → y < 2 * 3 ^ i → times y (points B₂) ≡ 0
+  none-2 : (y : ℕ) → y < 2 * 3 ^ i → times y (repeated B₂) ≡ 0
   none-2 y h = no-count B₂ y (zero-unless (times y (patterns B₂)) (λ k. let (a, b) = in-2 y k in omega arith))
 
-  at-0 : (q : ℕ) → q < 3 ^ i → times q (points X) ≡ at withZero R es gs q
+  at-0 : (q : ℕ) → q < 3 ^ i → times q (repeated X) ≡ at withZero R es gs q
   at-0 q h =
-      let e : times (q + 0) (points B₀) ≡ at withZero R es gs q = thirds-at 0 withZero R es gs q in
-      let f : times (q + 0) (points B₀) ≡ times q (points B₀) = ap (λ (x : ℕ). times x (points B₀)) (omega arith) in
+      let e : times (q + 0) (repeated B₀) ≡ at withZero R es gs q = thirds-at 0 withZero R es gs q in
+      let f : times (q + 0) (repeated B₀) ≡ times q (repeated B₀) = ap (λ (x : ℕ). times x (repeated B₀)) (omega arith) in
       omega (arith, X-times q, none-1 q (inl h), none-2 q (omega arith))
 
-  at-1 : (q : ℕ) → q < 3 ^ i → times (q + 3 ^ i) (points X) ≡ at withPlus R es gs q
+  at-1 : (q : ℕ) → q < 3 ^ i → times (q + 3 ^ i) (repeated X) ≡ at withPlus R es gs q
   at-1 q h =
-      omega (arith, X-times (q + 3 ^ i), none-0 (q + 3 ^ i) (omega arith), none-2 (q + 3 ^ i) (omega arith), thirds-at (3 ^ i) withPlus R es gs q)
+      omega (
+        arith,
+        X-times (q + 3 ^ i),
+        none-0 (q + 3 ^ i) (omega arith),
+        none-2 (q + 3 ^ i) (omega arith),
+        thirds-at (3 ^ i) withPlus R es gs q,
+      )
 
-  at-2 : (q : ℕ) → q < 3 ^ i → times (q + 2 * 3 ^ i) (points X) ≡ at withMinus R es gs q
+  at-2 : (q : ℕ) → q < 3 ^ i → times (q + 2 * 3 ^ i) (repeated X) ≡ at withMinus R es gs q
   at-2 q h =
       omega (
         arith,
@@ -348,7 +361,8 @@ block-query : (i k : ℕ) (E P : List ℕ) (c : List ℤ) (α : ℕ) → k < 3 �
     → ((q : ℕ) → q < 3 ^ i → fold i k (counts E) nothing q + part dn P c q ≡ fold i k nothing (counts E) q + part up P c q)
     → query (suc i) E (α + k * 3 ^ i) ≡ weighted i P c α
 block-query i k E P c α hk h b b′ e =
-    diff-same (query (suc i) E (α + k * 3 ^ i)) (weighted i P c α) (query-tally (suc i) (α + k * 3 ^ i) E (small k hk) b) (weighted-tally i α P c h b′)
+    diff-same (query (suc i) E (α + k * 3 ^ i)) (weighted i P c α) (query-tally (suc i) (α + k * 3 ^ i) E (small k hk) b)
+    (weighted-tally i α P c h b′)
     (omega (
       arith,
       tally-at i k α (counts E) nothing h,
@@ -381,8 +395,8 @@ fits-map s c E (α ∷ A) f (w ∷ ws) l F e =
 
 -- the values of a weight that is at most the count of each row
 values-small : (w : Weight) (R : List Row) → ((p : ℕ) (r : Row) → IsAt R p r → w .up (r .pattern) + w .dn (r .pattern) ≤ r .count)
-    → sumAbs (values w (patterns R)) ≤ length (points R)
-unfolding sumAbs values patterns points
+    → sumAbs (values w (patterns R)) ≤ length (repeated R)
+unfolding sumAbs values patterns repeated
 values-small w [] h = omega arith
 values-small w (r ∷ R) h =
     let z = subℕ (w .up (r .pattern)) (w .dn (r .pattern)) in
@@ -391,7 +405,7 @@ values-small w (r ∷ R) h =
       values-small w R (λ p x i. h (suc p) x (at-tail r R p x i)),
       h 0 r (at-head r R),
       diff-small (w .up (r .pattern)) (w .dn (r .pattern)),
-      length-append (replicate (r .count) (r .pattern)) (points R),
+      length-append (replicate (r .count) (r .pattern)) (repeated R),
       length-replicate (r .count) (r .pattern),
     )
   where
@@ -404,7 +418,7 @@ values-small w (r ∷ R) h =
 
 -- ---- the end of a round
 
-module _ (i : ℕ) (R₀ : List Row) (ws : List ℤ) (rows : IsRows i R₀) (few : length (points R₀) ≤ mostPoints)
+module _ (i : ℕ) (R₀ : List Row) (ws : List ℤ) (rows : IsRows i R₀) (few : length (repeated R₀) ≤ mostPoints)
     (full : length ws ≡ length (roundOf i (patterns R₀))) where
   abbrev P : List ℕ
   P = patterns R₀
@@ -436,41 +450,51 @@ module _ (i : ℕ) (R₀ : List Row) (ws : List ℤ) (rows : IsRows i R₀) (few
 
   -- ---- rows from two solutions
 
-  module _ (es gs : List ℤ) (S : Solution i P us es) (S′ : Solution i P vs gs) (t : allFair R₀ es gs ≡ true) where
+  module _ (es gs : List ℤ) (S : Solution i P us es) (S′ : Solution i P vs gs) (t : allSplit R₀ es gs ≡ true) where
     abbrev Y : List Row
     Y = extendedRows i R₀ es gs
 
-    Y-below : Below (3 ^ suc i) (points Y)
+    Y-below : Below (3 ^ suc i) (repeated Y)
     Y-below = points-below (3 ^ suc i) Y (X-rows i R₀ es gs rows .below)
 
-    query-1 : (α : ℕ) → 0 < times α A → query (suc i) (points Y) (α + 3 ^ i) ≡ weighted i P es α
+    query-1 : (α : ℕ) → 0 < times α A → query (suc i) (repeated Y) (α + 3 ^ i) ≡ weighted i P es α
     query-1 α h =
-        ap (query (suc i) (points Y)) (omega arith)
-        ∙ block-query i 1 (points Y) P es α (omega arith) (adapted-below i α P h) Y-below (rows .below)
+        ap (query (suc i) (repeated Y)) (omega arith)
+        ∙ block-query i 1 (repeated Y) P es α (omega arith) (adapted-below i α P h) Y-below (rows .below)
         (λ q k. unfold fold in omega (arith, at-1 i R₀ es gs rows q k, at-2 i R₀ es gs rows q k, three-at R₀ es gs t q .less))
 
-    query-2 : (α : ℕ) → 0 < times α A → query (suc i) (points Y) (α + 2 * 3 ^ i) ≡ weighted i P gs α
+    query-2 : (α : ℕ) → 0 < times α A → query (suc i) (repeated Y) (α + 2 * 3 ^ i) ≡ weighted i P gs α
     query-2 α h =
-        block-query i 2 (points Y) P gs α (omega arith) (adapted-below i α P h) Y-below (rows .below)
+        block-query i 2 (repeated Y) P gs α (omega arith) (adapted-below i α P h) Y-below (rows .below)
         (λ q k. unfold fold in omega (arith, at-1 i R₀ es gs rows q k, at-2 i R₀ es gs rows q k, three-at R₀ es gs t q .and))
 
     two-solutions : NextRows i R₀ ws Y
     two-solutions =
         record {
           rows = X-rows i R₀ es gs rows;
-          sums = λ q h. omega (arith, at-0 i R₀ es gs rows q h, at-1 i R₀ es gs rows q h, at-2 i R₀ es gs rows q h, three-at R₀ es gs t q .adds);
+          sums =
+              λ q h. omega (
+                arith,
+                at-0 i R₀ es gs rows q h,
+                at-1 i R₀ es gs rows q h,
+                at-2 i R₀ es gs rows q h,
+                three-at R₀ es gs t q .adds,
+              );
           give = unfold roundOf in
-              subst (Fits (suc i) (points Y) (shift (3 ^ i) A ++ shift (2 * 3 ^ i) A)) halves
-              (fits-append (suc i) (points Y) (shift (3 ^ i) A) (shift (2 * 3 ^ i) A) us vs (omega (arith, length-shift (3 ^ i) A, A-length, us-length))
-              (subst (Fits (suc i) (points Y) (shift (3 ^ i) A)) (S .give) (map-fits (suc i) (3 ^ i) (points Y) A (weighted i P es) query-1))
-              (subst (Fits (suc i) (points Y) (shift (2 * 3 ^ i) A)) (S′ .give) (map-fits (suc i) (2 * 3 ^ i) (points Y) A (weighted i P gs) query-2)));
+              subst (Fits (suc i) (repeated Y) (shift (3 ^ i) A ++ shift (2 * 3 ^ i) A)) halves
+              (fits-append (suc i) (repeated Y) (shift (3 ^ i) A) (shift (2 * 3 ^ i) A) us vs
+              (omega (arith, length-shift (3 ^ i) A, A-length, us-length))
+              (subst (Fits (suc i) (repeated Y) (shift (3 ^ i) A)) (S .give)
+              (map-fits (suc i) (3 ^ i) (repeated Y) A (weighted i P es) query-1))
+              (subst (Fits (suc i) (repeated Y) (shift (2 * 3 ^ i) A)) (S′ .give)
+              (map-fits (suc i) (2 * 3 ^ i) (repeated Y) A (weighted i P gs) query-2)));
         }
 
   -- ---- two solutions from rows
 
   module _ (R : List Row) (M : NextRows i R₀ ws R) where
     abbrev E : List ℕ
-    E = points R
+    E = repeated R
 
     abbrev C : ℕ → ℕ
     C q = times q E
@@ -499,7 +523,8 @@ module _ (i : ℕ) (R₀ : List Row) (ws : List ℤ) (rows : IsRows i R₀) (few
     W-small (suc zero) h p r a = omega (arith, row-sum p r a)
     W-small (suc (suc k)) h p r a = omega (arith, row-sum p r a)
 
-    solves-half : (k : ℕ) (ds : List ℤ) → 0 < k → k < 3 → length ds ≡ length P → Fits (suc i) E (shift (k * 3 ^ i) A) ds → Solution i P ds (values (W k) P)
+    solves-half : (k : ℕ) (ds : List ℤ) → 0 < k → k < 3 → length ds ≡ length P → Fits (suc i) E (shift (k * 3 ^ i) A) ds
+        → Solution i P ds (values (W k) P)
     solves-half k ds h h′ l f =
         record {
           one-each = values-length (W k) P;
@@ -519,18 +544,20 @@ module _ (i : ℕ) (R₀ : List Row) (ws : List ℤ) (rows : IsRows i R₀) (few
     first-half : Solution i P us (values (W 1) P)
     first-half =
         solves-half 1 us (omega arith) (omega arith) us-length
-        (subst (λ (c : ℕ). Fits (suc i) E (shift c A) us) (omega arith) (fits-left (suc i) E (shift (3 ^ i) A) (shift (2 * 3 ^ i) A) us vs shift-length M-halves))
+        (subst (λ (c : ℕ). Fits (suc i) E (shift c A) us) (omega arith)
+        (fits-left (suc i) E (shift (3 ^ i) A) (shift (2 * 3 ^ i) A) us vs shift-length M-halves))
 
     second-half : Solution i P vs (values (W 2) P)
     second-half =
         solves-half 2 vs (omega arith) (omega arith) vs-length
         (fits-right (suc i) E (shift (3 ^ i) A) (shift (2 * 3 ^ i) A) us vs shift-length M-halves)
 
-    all-fair : (R′ : List Row) → ((p : ℕ) (r : Row) → IsAt R′ p r → r .count ≡ C (r .pattern) + C (r .pattern + 3 ^ i) + C (r .pattern + 2 * 3 ^ i))
-        → allFair R′ (values (W 1) (patterns R′)) (values (W 2) (patterns R′)) ≡ true
-    unfolding allFair values patterns
-    all-fair [] h = refl
-    all-fair (r ∷ R′) h = rw (one, all-fair R′ (λ p x a. h (suc p) x (at-tail r R′ p x a))) refl
+    all-splits : (R′ : List Row)
+        → ((p : ℕ) (r : Row) → IsAt R′ p r → r .count ≡ C (r .pattern) + C (r .pattern + 3 ^ i) + C (r .pattern + 2 * 3 ^ i))
+        → allSplit R′ (values (W 1) (patterns R′)) (values (W 2) (patterns R′)) ≡ true
+    unfolding allSplit values patterns
+    all-splits [] h = refl
+    all-splits (r ∷ R′) h = rw (one, all-splits R′ (λ p x a. h (suc p) x (at-tail r R′ p x a))) refl
       where
         q : ℕ
         q = r .pattern
@@ -540,9 +567,9 @@ module _ (i : ℕ) (R₀ : List Row) (ws : List ℤ) (rows : IsRows i R₀) (few
             let z = subℕ (W k .up q) (W k .dn q) in
             omega (arith, diff-one z (diff-parts z) (diff-sub (W k .up q) (W k .dn q)))
 
-        one : fair (r .count) (subℕ (W 1 .up q) (W 1 .dn q)) (subℕ (W 2 .up q) (W 2 .dn q)) ≡ true
+        one : splits (r .count) (subℕ (W 1 .up q) (W 1 .dn q)) (subℕ (W 2 .up q) (W 2 .dn q)) ≡ true
         one =
-            fair-from (r .count) (C q) (C (q + 3 ^ i)) (C (q + 2 * 3 ^ i)) _ _ (h 0 r (at-head r R′))
+            splits-from (r .count) (C q) (C (q + 3 ^ i)) (C (q + 2 * 3 ^ i)) _ _ (h 0 r (at-head r R′))
             (unfold fold in omega (arith, diff 1)) (unfold fold in omega (arith, diff 2))
 
     pub to-some : byMoments i R₀ ws ≡ some (extendedRows i R₀ (values (W 1) P) (values (W 2) P))
@@ -551,7 +578,7 @@ module _ (i : ℕ) (R₀ : List Row) (ws : List ℤ) (rows : IsRows i R₀) (few
         rw (
           solver-found i P us (posed us us-length) (values (W 1) P) .1 first-half,
           solver-found i P vs (posed vs vs-length) (values (W 2) P) .1 second-half,
-          all-fair R₀ row-sum,
+          all-splits R₀ row-sum,
         )
         refl
 
@@ -561,7 +588,7 @@ module _ (i : ℕ) (R₀ : List Row) (ws : List ℤ) (rows : IsRows i R₀) (few
   unfolding byMoments judged
   from-some R e = first (solverOf i P us) refl e
     where
-      third : (es gs : List ℤ) → Solution i P us es → Solution i P vs gs → (b : Bool) → allFair R₀ es gs ≡ b
+      third : (es gs : List ℤ) → Solution i P us es → Solution i P vs gs → (b : Bool) → allSplit R₀ es gs ≡ b
           → cond b (some (extendedRows i R₀ es gs)) none ≡ some R → NextRows i R₀ ws R
       third es gs S S′ true t k = subst (NextRows i R₀ ws) (some-same (extendedRows i R₀ es gs) R k) (two-solutions es gs S S′ t)
       third es gs S S′ false t k = let x : _≡_ {A = ℕ} 0 1 = cc in absurd (omega arith)
@@ -569,7 +596,7 @@ module _ (i : ℕ) (R₀ : List Row) (ws : List ℤ) (rows : IsRows i R₀) (few
       second : (es : List ℤ) → Solution i P us es → (o : Option (List ℤ)) → solverOf i P vs ≡ o
           → andThen o (λ gs. judged i R₀ es gs) ≡ some R → NextRows i R₀ ws R
       second es S none f k = let x : _≡_ {A = ℕ} 0 1 = cc in absurd (omega arith)
-      second es S (some gs) f k = third es gs S (solver-found i P vs (posed vs vs-length) gs .0 f) (allFair R₀ es gs) refl k
+      second es S (some gs) f k = third es gs S (solver-found i P vs (posed vs vs-length) gs .0 f) (allSplit R₀ es gs) refl k
 
       first : (o : Option (List ℤ)) → solverOf i P us ≡ o
           → andThen o (λ es. andThen (solverOf i P vs) (λ gs. judged i R₀ es gs)) ≡ some R → NextRows i R₀ ws R

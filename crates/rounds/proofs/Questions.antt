@@ -14,7 +14,7 @@ use Rattle.refusals.specs.Limits.{mostPoints, mostPolynomials}
 use Rattle.integers.proofs.Tests.{eqb-same, eqb-other}
 use Rattle.signs.specs.Lists.{times}
 use Rattle.signs.proofs.Size.{total, total-mono, rising-length}
-use Rattle.rounds.specs.Rows.{Row, patterns, points, Positive, rowIf}
+use Rattle.rounds.specs.Rows.{Row, patterns, repeated, Positive, rowIf}
 use Rattle.rounds.specs.Rounds.{roundOf, Determined, RowsAfter}
 use Rattle.rounds.proofs.RowLaws.{length-patterns}
 use Rattle.rounds.proofs.Answers.{Facts, facts, round-length}
@@ -87,15 +87,15 @@ one-row i k zs ps R d h (a, many) = go (a .determined)
 -- ---- bounds
 
 -- each row has a point
-rows-points : (R : List Row) → Positive R → length R ≤ length (points R)
-unfolding Positive points
+rows-points : (R : List Row) → Positive R → length R ≤ length (repeated R)
+unfolding Positive repeated
 rows-points [] p = omega arith
 rows-points (r ∷ R) p =
     omega (
       arith,
       rows-points R (p .1),
       p .0,
-      length-append (replicate (r .count) (r .pattern)) (points R),
+      length-append (replicate (r .count) (r .pattern)) (repeated R),
       length-replicate (r .count) (r .pattern),
     )
 
@@ -147,6 +147,7 @@ unfolding total most
 most-8 = refl
 
 -- with at most 8 polynomials
-pub at-most-593 : (s k : ℕ) (zs : List ℤ) (r : ℕ → ℕ) → s ≤ mostPolynomials → ((i : ℕ) → i < s → RowsAfter i zs (r i)) → k ≡ 1 + 2 * total r s → k ≤ 593
+pub at-most-593 : (s k : ℕ) (zs : List ℤ) (r : ℕ → ℕ) → s ≤ mostPolynomials → ((i : ℕ) → i < s → RowsAfter i zs (r i)) → k
+    ≡ 1 + 2 * total r s → k ≤ 593
 at-most-593 s k zs r h each e =
     omega (arith, total-mono r most s (λ i b. after-most i (r i) zs (each i b)), total-longer most s 8 h, most-8)

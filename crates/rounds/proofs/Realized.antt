@@ -7,8 +7,9 @@ use native.Mathlib.Decide.{decLt}
 use Rattle.signs.specs.Lists.{times, Below, Rising}
 use Rattle.signs.proofs.Lists.{times-same, times-append}
 use Rattle.signs.proofs.Size.{below-under, rising-once}
-use Rattle.rounds.specs.Rows.{Row, patterns, points, IsRows, IsAt, rowsOf, realized, IsRealized}
-use Rattle.rounds.proofs.RowLaws.{zero-unless, points-same, points-in, patterns-in, no-count, points-append, patterns-append, rowsOf-rows, rowsOf-in, rowsOf-out}
+use Rattle.rounds.specs.Rows.{Row, patterns, repeated, IsRows, IsAt, rowsOf, realized, IsRealized}
+use Rattle.rounds.proofs.RowLaws.{zero-unless, points-same, points-in, patterns-in, no-count, points-append, patterns-append}
+use Rattle.rounds.proofs.RowLaws.{rowsOf-rows, rowsOf-in, rowsOf-out}
 
 -- ---- positions
 
@@ -34,11 +35,11 @@ at-times K p r i =
 pub at-in : (K : List Row) (p : ℕ) (r : Row) → IsAt K p r → 0 < times (r .pattern) (patterns K)
 at-in K p r i = omega (arith, at-times K p r i)
 
-pub count-of : (K : List Row) (p : ℕ) (r : Row) → Rising (patterns K) → IsAt K p r → r .count ≡ times (r .pattern) (points K)
+pub count-of : (K : List Row) (p : ℕ) (r : Row) → Rising (patterns K) → IsAt K p r → r .count ≡ times (r .pattern) (repeated K)
 count-of K p r u i =
     omega (
       arith,
-      ap (λ (l : List Row). times q (points l)) (i .splits),
+      ap (λ (l : List Row). times q (repeated l)) (i .splits),
       points-append q (i .before) (r ∷ i .after),
       points-same r (i .after),
       no-count (i .before) q (omega (arith, once, at-times K p r i)),
@@ -70,10 +71,10 @@ realized-true s E b =
     r : IsRows s K
     r = rowsOf-rows s (λ q. times q E)
 
-    all : (q : ℕ) → times q (points K) ≡ times q E
+    all : (q : ℕ) → times q (repeated K) ≡ times q E
     all q = go (decLt q (3 ^ s))
       where
-        go : Dec (q < 3 ^ s) → times q (points K) ≡ times q E
+        go : Dec (q < 3 ^ s) → times q (repeated K) ≡ times q E
         go (yes h) = rowsOf-in (3 ^ s) (λ x. times x E) q h
         go (no h) =
             rowsOf-out (3 ^ s) (λ x. times x E) q (omega arith)

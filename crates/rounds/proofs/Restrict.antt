@@ -99,18 +99,54 @@ restrict-count i q (σ ∷ E) h b =
 
     at : (d r : ℕ) → r < 3 ^ i → d < 3 → σ ≡ r + d * 3 ^ i → σ % 3 ^ i ≡ r → Dec (q ≡ r) → Goal
     at zero r hr hd e m (yes k) =
-        omega (arith, is q (σ % 3 ^ i) (omega arith), is q σ (omega arith), isnt (q + 3 ^ i) σ (omega arith), isnt (q + 2 * 3 ^ i) σ (omega arith))
+        omega (
+          arith,
+          is q (σ % 3 ^ i) (omega arith),
+          is q σ (omega arith),
+          isnt (q + 3 ^ i) σ (omega arith),
+          isnt (q + 2 * 3 ^ i) σ (omega arith),
+        )
     at (suc zero) r hr hd e m (yes k) =
-        omega (arith, is q (σ % 3 ^ i) (omega arith), isnt q σ (omega arith), is (q + 3 ^ i) σ (omega arith), isnt (q + 2 * 3 ^ i) σ (omega arith))
+        omega (
+          arith,
+          is q (σ % 3 ^ i) (omega arith),
+          isnt q σ (omega arith),
+          is (q + 3 ^ i) σ (omega arith),
+          isnt (q + 2 * 3 ^ i) σ (omega arith),
+        )
     at (suc (suc zero)) r hr hd e m (yes k) =
-        omega (arith, is q (σ % 3 ^ i) (omega arith), isnt q σ (omega arith), isnt (q + 3 ^ i) σ (omega arith), is (q + 2 * 3 ^ i) σ (omega arith))
+        omega (
+          arith,
+          is q (σ % 3 ^ i) (omega arith),
+          isnt q σ (omega arith),
+          isnt (q + 3 ^ i) σ (omega arith),
+          is (q + 2 * 3 ^ i) σ (omega arith),
+        )
     at (suc (suc (suc d))) r hr hd e m (yes k) = absurd (omega arith)
     at zero r hr hd e m (no k) =
-        omega (arith, isnt q (σ % 3 ^ i) (omega arith), isnt q σ (omega arith), isnt (q + 3 ^ i) σ (omega arith), isnt (q + 2 * 3 ^ i) σ (omega arith))
+        omega (
+          arith,
+          isnt q (σ % 3 ^ i) (omega arith),
+          isnt q σ (omega arith),
+          isnt (q + 3 ^ i) σ (omega arith),
+          isnt (q + 2 * 3 ^ i) σ (omega arith),
+        )
     at (suc zero) r hr hd e m (no k) =
-        omega (arith, isnt q (σ % 3 ^ i) (omega arith), isnt q σ (omega arith), isnt (q + 3 ^ i) σ (omega arith), isnt (q + 2 * 3 ^ i) σ (omega arith))
+        omega (
+          arith,
+          isnt q (σ % 3 ^ i) (omega arith),
+          isnt q σ (omega arith),
+          isnt (q + 3 ^ i) σ (omega arith),
+          isnt (q + 2 * 3 ^ i) σ (omega arith),
+        )
     at (suc (suc zero)) r hr hd e m (no k) =
-        omega (arith, isnt q (σ % 3 ^ i) (omega arith), isnt q σ (omega arith), isnt (q + 3 ^ i) σ (omega arith), isnt (q + 2 * 3 ^ i) σ (omega arith))
+        omega (
+          arith,
+          isnt q (σ % 3 ^ i) (omega arith),
+          isnt q σ (omega arith),
+          isnt (q + 3 ^ i) σ (omega arith),
+          isnt (q + 2 * 3 ^ i) σ (omega arith),
+        )
     at (suc (suc (suc d))) r hr hd e m (no k) = absurd (omega arith)
 
     one : (r d : ℕ) × (r < 3 ^ i) × (d < 3) × (σ ≡ r + d * 3 ^ i) → Goal
@@ -118,10 +154,15 @@ restrict-count i q (σ ∷ E) h b =
 
 -- ---- a query is fixed by the counts
 
-pub query-ext : (i α : ℕ) (E E′ : List ℕ) → α < 3 ^ i → Below (3 ^ i) E → Below (3 ^ i) E′ → Agree i (counts E) (counts E′) → query i E α ≡ query i E′ α
+pub query-ext : (i α : ℕ) (E E′ : List ℕ) → α < 3 ^ i → Below (3 ^ i) E → Below (3 ^ i) E′ → Agree i (counts E) (counts E′) → query i E α
+    ≡ query i E′ α
 query-ext i α E E′ a b b′ e =
     diff-same (query i E α) (query i E′ α) (query-tally i α E a b) (query-tally i α E′ a b′)
-    (omega (arith, tally-ext i α (counts E) (counts E′) none none e (λ q h. refl), tally-ext i α none none (counts E) (counts E′) (λ q h. refl) e))
+    (omega (
+      arith,
+      tally-ext i α (counts E) (counts E′) none none e (λ q h. refl),
+      tally-ext i α none none (counts E) (counts E′) (λ q h. refl) e,
+    ))
 
 -- ---- fitting
 
@@ -138,7 +179,8 @@ fits-same s i E E′ (x ∷ ps) (z ∷ zs) l f g α h = go (ℕ-discrete α x) (
     go (no e) ih = ih (omega (arith, times-other α x ps e))
 
 -- and one with the same queries fits too
-pub fits-move : (s i : ℕ) (E E′ ps : List ℕ) (zs : List ℤ) → Fits s E ps zs → ((α : ℕ) → 0 < times α ps → query s E α ≡ query i E′ α) → Fits i E′ ps zs
+pub fits-move : (s i : ℕ) (E E′ ps : List ℕ) (zs : List ℤ) → Fits s E ps zs → ((α : ℕ) → 0 < times α ps → query s E α ≡ query i E′ α)
+    → Fits i E′ ps zs
 unfolding Fits
 fits-move s i E E′ ps [] f e = tt
 fits-move s i E E′ [] (z ∷ zs) f e = f
@@ -147,7 +189,8 @@ fits-move s i E E′ (x ∷ ps) (z ∷ zs) f e = (
   fits-move s i E E′ ps zs (f .1) (λ α h. e α (omega (arith, times-append α (x ∷ []) ps))),
 )
 
-pub fits-append : (s : ℕ) (E ps qs : List ℕ) (zs ws : List ℤ) → length ps ≡ length zs → Fits s E ps zs → Fits s E qs ws → Fits s E (ps ++ qs) (zs ++ ws)
+pub fits-append : (s : ℕ) (E ps qs : List ℕ) (zs ws : List ℤ) → length ps ≡ length zs → Fits s E ps zs → Fits s E qs ws
+    → Fits s E (ps ++ qs) (zs ++ ws)
 unfolding Fits
 fits-append s E [] qs [] ws l f g = g
 fits-append s E [] qs (z ∷ zs) ws l f g = absurd f

@@ -6,11 +6,12 @@ use Prim.Native.Nat.{ℕ}
 use lib.IntN.{ℤ, pos, negsuc}
 use Rattle.integers.specs.Sums.{sumAbs}
 use Rattle.signs.specs.Lists.{times, upTo, keep, shift, isBelow, isRising}
-use Rattle.signs.specs.Adapted.{signsOf, lows, adapted}
+use Rattle.signs.specs.Adapted.{signsOf, restrictions, adapted}
 use Rattle.signs.specs.Tally.{fold, tally}
-use Rattle.solutions.specs.Solver.{_⊕_, _⊖_, half, allEven, queries, block, known-1, known-2, knownDifference, knownSum, glue, bySign, combine, solve, lookup, weightOf, values, withinLimit, solverOf}
+use Rattle.solutions.specs.Solver.{_⊕_, _⊖_, half, allEven, queries, block, known1, known2, knownDifference, knownSum, glue, bySign}
+use Rattle.solutions.specs.Solver.{combine, solve, lookup, weightOf, values, withinLimit, solverOf}
 use Rattle.rounds.specs.Rows.{Row, patterns, counts, rowIf}
-use Rattle.rounds.specs.Moments.{fair, allFair, thirds, extendedRows, judged, byMoments}
+use Rattle.rounds.specs.Moments.{splits, allSplit, extendedBy, extendedRows, judged, byMoments}
 use Rattle.rounds.specs.RoundEnd.{allPositive, sum, properRows, roundRows}
 
 abbrev at : ℕ → ℕ → Row
@@ -32,7 +33,9 @@ pub record RoundEdges : Type 0 where
   pub example : roundRows 2 (at 4 2 ∷ at 8 1 ∷ []) (negsuc 0 ∷ pos 1 ∷ pos 3 ∷ pos 1 ∷ []) ≡ some (at 13 1 ∷ at 22 1 ∷ at 26 1 ∷ [])
 
 pub round-edges : RoundEdges
-unfolding roundRows properRows isRising isBelow allPositive sum patterns counts byMoments judged allFair fair extendedRows thirds rowIf solverOf withinLimit sumAbs values solve combine bySign glue knownSum knownDifference known-1 known-2 block queries allEven half _⊕_ _⊖_ lookup weightOf fold tally adapted times shift lows keep upTo signsOf
+unfolding roundRows properRows isRising isBelow allPositive sum patterns counts byMoments judged allSplit splits extendedRows extendedBy
+    rowIf solverOf withinLimit sumAbs values solve combine bySign glue knownSum knownDifference known1 known2 block queries allEven half _⊕_
+    _⊖_ lookup weightOf fold tally adapted times shift restrictions keep upTo signsOf
 round-edges =
     record {
       two-rows = refl;

@@ -13,7 +13,7 @@ use Rattle.refusals.specs.Limits.{mostPoints}
 use Rattle.integers.proofs.Tests.{is-true}
 use Rattle.signs.specs.Lists.{isBelow, isRising}
 use Rattle.signs.proofs.Orders.{both, below-test, rising-test}
-use Rattle.rounds.specs.Rows.{Row, patterns, counts, points, Positive, IsRows}
+use Rattle.rounds.specs.Rows.{Row, patterns, counts, repeated, Positive, IsRows}
 use Rattle.rounds.specs.Rounds.{roundOf}
 use Rattle.rounds.specs.NextRows.{RightRows}
 use Rattle.rounds.specs.Moments.{byMoments}
@@ -26,14 +26,14 @@ unfolding Positive counts allPositive
 positive-test [] p = refl
 positive-test (r ∷ R) p = both (ltb 0 (r .count)) (allPositive (counts R)) (lt-ltb 0 (r .count) (p .0)) (positive-test R (p .1))
 
-pub sum-points : (R : List Row) → sum (counts R) ≡ length (points R)
-unfolding counts sum points
+pub sum-points : (R : List Row) → sum (counts R) ≡ length (repeated R)
+unfolding counts sum repeated
 sum-points [] = refl
 sum-points (r ∷ R) =
-    omega (arith, length-append (replicate (r .count) (r .pattern)) (points R), length-replicate (r .count) (r .pattern), sum-points R)
+    omega (arith, length-append (replicate (r .count) (r .pattern)) (repeated R), length-replicate (r .count) (r .pattern), sum-points R)
 
 -- rows as a round leaves them pass the test
-pub proper-test : (i : ℕ) (R : List Row) → IsRows i R → length (points R) ≤ mostPoints → properRows i R ≡ true
+pub proper-test : (i : ℕ) (R : List Row) → IsRows i R → length (repeated R) ≤ mostPoints → properRows i R ≡ true
 unfolding properRows
 proper-test i R rows few =
     rw (
@@ -41,12 +41,13 @@ proper-test i R rows few =
       below-test (3 ^ i) (patterns R) (rows .below),
       positive-test R (rows .positive),
       sum-points R,
-      is-true (leb (length (points R)) mostPoints) (le→leb (length (points R)) mostPoints few),
+      is-true (leb (length (repeated R)) mostPoints) (le→leb (length (repeated R)) mostPoints few),
     )
     refl
 
 -- on them, with all answers of a round, the two questions to the solver are asked
-asked : (i : ℕ) (R₀ : List Row) (ws : List ℤ) → IsRows i R₀ → length (points R₀) ≤ mostPoints → length ws ≡ length (roundOf i (patterns R₀))
+asked : (i : ℕ) (R₀ : List Row) (ws : List ℤ) → IsRows i R₀ → length (repeated R₀) ≤ mostPoints → length ws
+    ≡ length (roundOf i (patterns R₀))
     → roundRows i R₀ ws ≡ byMoments i R₀ ws
 unfolding roundRows
 asked i R₀ ws rows few full =

@@ -1,4 +1,5 @@
--- How rounds follow one another: rows are fixed by the answers, a round's counts make the next rows, and an oracle that fits has such counts.
+-- How rounds follow one another: rows are fixed by the answers, a round's counts make the next rows, and an oracle that fits has such
+-- counts.
 use mathlib.Core.Path.{_≡_, refl, sym, ap, ap₂, _∙_, subst}
 use mathlib.Core.List.{List, [], _∷_, _++_, append-assoc, append-nil, head-eq-of-cons-eq, tail-eq-of-cons-eq}
 use Prim.Native.Nat.{ℕ, zero, suc, _+_, _*_, _-_, _^_, _%_, _<_, _≤_}
@@ -20,10 +21,11 @@ use Rattle.signs.proofs.Tallies.{Agree}
 use Rattle.signs.proofs.Weights.{IsSign, sign-0, sign-+, sign-−, sign-sign}
 use Rattle.rounds.specs.NextRows.{NextRows}
 use Rattle.rounds.specs.Rounds.{roundOf, Counts, Answered, Determined, Past, AtEnd}
-use Rattle.rounds.specs.Rows.{Row, patterns, points, Positive, IsRows, rowIf, rowsOf, Oracle, realized, Fits}
+use Rattle.rounds.specs.Rows.{Row, patterns, repeated, Positive, IsRows, rowIf, rowsOf, Oracle, realized, Fits}
 use Rattle.rounds.proofs.Answers.{Facts, facts, query-zero, round-low}
 use Rattle.rounds.specs.Rows.{restrict}
-use Rattle.rounds.proofs.Restrict.{three-mono, restrict-below, restrict-same, restrict-count, query-low, query-drop, query-ext, fits-move, fits-append, fits-left, fits-right}
+use Rattle.rounds.proofs.Restrict.{three-mono, restrict-below, restrict-same, restrict-count, query-low, query-drop, query-ext}
+use Rattle.rounds.proofs.Restrict.{fits-move, fits-append, fits-left, fits-right}
 use Rattle.rounds.proofs.RowLaws.{zero-unless, rows-ext, rowsOf-rows, rowsOf-in, points-in, patterns-in, points-below}
 
 -- ---- lists
@@ -48,16 +50,17 @@ agree-all n E E′ b b′ e q = go (decLt q n)
     go (yes h) = e q h
     go (no h) = omega (arith, out-zero n E b q (omega arith), out-zero n E′ b′ q (omega arith))
 
-pub rows-same : (i : ℕ) (R R′ : List Row) → IsRows i R → IsRows i R′ → Agree i (counts (points R)) (counts (points R′)) → R ≡ R′
+pub rows-same : (i : ℕ) (R R′ : List Row) → IsRows i R → IsRows i R′ → Agree i (counts (repeated R)) (counts (repeated R′)) → R ≡ R′
 rows-same i R R′ r r′ e =
     rows-ext R R′ (r .rising) (r .positive) (r′ .rising) (r′ .positive)
-    (agree-all (3 ^ i) (points R) (points R′) (points-below (3 ^ i) R (r .below)) (points-below (3 ^ i) R′ (r′ .below)) e)
+    (agree-all (3 ^ i) (repeated R) (repeated R′) (points-below (3 ^ i) R (r .below)) (points-below (3 ^ i) R′ (r′ .below)) e)
 
 -- the realized list is the rows with the counts
-pub realized-rows : (i : ℕ) (E : List ℕ) (R : List Row) → IsRows i R → Agree i (counts E) (counts (points R)) → realized i E ≡ R
+pub realized-rows : (i : ℕ) (E : List ℕ) (R : List Row) → IsRows i R → Agree i (counts E) (counts (repeated R)) → realized i E ≡ R
 unfolding realized
 realized-rows i E R r e =
-    rows-same i (rowsOf (3 ^ i) (λ q. times q E)) R (rowsOf-rows i (λ q. times q E)) r (λ q h. rowsOf-in (3 ^ i) (λ q. times q E) q h ∙ e q h)
+    rows-same i (rowsOf (3 ^ i) (λ q. times q E)) R (rowsOf-rows i (λ q. times q E)) r
+    (λ q h. rowsOf-in (3 ^ i) (λ q. times q E) q h ∙ e q h)
 
 -- ---- rows are fixed by the answers
 
@@ -72,7 +75,8 @@ Fixed i =
     (zs zs′ us us′ : List ℤ) (ps ps′ : List ℕ) (R R′ : List Row) → Determined i zs ps R → Determined i zs′ ps′ R′
     → zs ++ us ≡ zs′ ++ us′ → (zs ≡ zs′) × (ps ≡ ps′) × (R ≡ R′)
 
-answered-fixed : (i : ℕ) (zs zs′ us us′ : List ℤ) (ps ps′ : List ℕ) (a : Answered i (Determined i) zs ps) (a′ : Answered i (Determined i) zs′ ps′)
+answered-fixed : (i : ℕ) (zs zs′ us us′ : List ℤ) (ps ps′ : List ℕ) (a : Answered i (Determined i) zs ps)
+    (a′ : Answered i (Determined i) zs′ ps′)
     → Fixed i → zs ++ us ≡ zs′ ++ us′ → (zs ≡ zs′) × (ps ≡ ps′) × (a .rows ≡ a′ .rows)
 answered-fixed i zs zs′ us us′ ps ps′ a a′ fixed j =
     next (fixed (a .before) (a′ .before) (a .now ++ us) (a′ .now ++ us′) (a .asked) (a′ .asked) (a .rows) (a′ .rows) (a .after) (a′ .after)
@@ -106,11 +110,12 @@ determined-unique zero zs zs′ us us′ ps ps′ R R′ (n, h, e, f, g) (n′, 
 determined-unique (suc i) zs zs′ us us′ ps ps′ R R′ (a, c) (a′, c′) j =
     let (z, p, r) = answered-fixed i zs zs′ us us′ ps ps′ a a′ (determined-unique i) j in
     let F : Facts (suc i) zs ps R = facts (suc i) zs ps R (a, c) in
-    let f : Fits (suc i) (points R′) ps zs = rw (z, p) (c′ .give) in
-    (z, p, sym (rows-same (suc i) R′ R (c′ .rows) (c .rows) (F .only (points R′) (points-below (3 ^ suc i) R′ (c′ .rows .below)) f)))
+    let f : Fits (suc i) (repeated R′) ps zs = rw (z, p) (c′ .give) in
+    (z, p, sym (rows-same (suc i) R′ R (c′ .rows) (c .rows) (F .only (repeated R′) (points-below (3 ^ suc i) R′ (c′ .rows .below)) f)))
 
 -- a round ends at one place
-pub end-unique : (i : ℕ) (zs zs′ us us′ : List ℤ) (ps ps′ : List ℕ) → AtEnd i zs ps → AtEnd i zs′ ps′ → zs ++ us ≡ zs′ ++ us′ → length zs ≡ length zs′
+pub end-unique : (i : ℕ) (zs zs′ us us′ : List ℤ) (ps ps′ : List ℕ) → AtEnd i zs ps → AtEnd i zs′ ps′ → zs ++ us ≡ zs′ ++ us′ → length zs
+    ≡ length zs′
 unfolding AtEnd
 end-unique zero zs zs′ us us′ ps ps′ ((z, e), f) ((z′, e′), f′) j = ap length e ∙ sym (ap length e′)
 end-unique (suc i) zs zs′ us us′ ps ps′ a a′ j = ap length (answered-fixed i zs zs′ us us′ ps ps′ a a′ (determined-unique i) j .0)
@@ -138,7 +143,8 @@ answered-past i zs ps a =
 pub inside : (i j : ℕ) (zs : List ℤ) (ps : List ℕ) → j < i → AtEnd i zs ps → Inside j zs
 unfolding AtEnd
 inside zero j zs ps h a = absurd (omega arith)
-inside (suc i) j zs ps h a = go (ℕ-discrete j i) (λ k. inside i j (a .before) (a .asked) k (at-end i (a .before) (a .asked) (a .rows) (a .after)))
+inside (suc i) j zs ps h a =
+    go (ℕ-discrete j i) (λ k. inside i j (a .before) (a .asked) k (at-end i (a .before) (a .asked) (a .rows) (a .after)))
   where
     go : Dec (j ≡ i) → (j < i → Inside j (a .before)) → Inside j zs
     go (yes e) ih = subst (λ (x : ℕ). Inside x zs) (sym e) (answered-past i zs ps a, omega (arith, a .all))
@@ -147,11 +153,13 @@ inside (suc i) j zs ps h a = go (ℕ-discrete j i) (λ k. inside i j (a .before)
         subst (Inside j) (sym (a .answers)) (past-more j (a .before) (a .now) b, omega (arith, n, length-append (b .now) (a .now)))
 
 -- while a round's answers are not all there, no later round has ended
-pub not-ended : (i j : ℕ) (zs us before now : List ℤ) (qs asked : List ℕ) (R : List Row) → j < i → AtEnd i zs qs → Determined j before asked R
+pub not-ended : (i j : ℕ) (zs us before now : List ℤ) (qs asked : List ℕ) (R : List Row) → j < i → AtEnd i zs qs
+    → Determined j before asked R
     → zs ++ us ≡ before ++ now → length now < length (roundOf j (patterns R)) → ⊥
 not-ended i j zs us before now qs asked R h e c k m =
     let (b, n) = inside i j zs qs h e in
-    let j₁ : b .before ++ (b .now ++ us) ≡ before ++ now = sym (append-assoc (b .before) (b .now) us) ∙ ap (λ (l : List ℤ). l ++ us) (sym (b .answers)) ∙ k in
+    let j₁ : b .before ++ (b .now ++ us) ≡ before ++ now = sym (append-assoc (b .before) (b .now) us)
+    ∙ ap (λ (l : List ℤ). l ++ us) (sym (b .answers)) ∙ k in
     let (z, p, r) = determined-unique j (b .before) before (b .now ++ us) now (b .asked) asked (b .rows) R (b .determined) c j₁ in
     let t : b .now ++ us ≡ now = append-same (b .before) before (b .now ++ us) now (ap length z) j₁ .1 in
     omega (arith, ap length t, length-append (b .now) us, n, ap (λ (X : List Row). length (roundOf j (patterns X))) r)
@@ -164,7 +172,8 @@ query-lift s i α E h a b =
     ap (λ (x : ℕ). query x E α) e ∙ query-low (s - i) i α E a (subst (λ (x : ℕ). Below (3 ^ x) E) e b)
 
 -- what fits for s polynomials fits for the first i, the others taken off
-pub fits-restrict : (s i : ℕ) (E ps : List ℕ) (zs : List ℤ) → i ≤ s → Under (3 ^ i) ps → Below (3 ^ s) E → Fits s E ps zs → Fits i (restrict i E) ps zs
+pub fits-restrict : (s i : ℕ) (E ps : List ℕ) (zs : List ℤ) → i ≤ s → Under (3 ^ i) ps → Below (3 ^ s) E → Fits s E ps zs
+    → Fits i (restrict i E) ps zs
 fits-restrict s i E ps zs h u b f = fits-move s i E (restrict i E) ps zs f (λ α m. query-lift s i α E h (u α m) b)
 
 below-up : (n m : ℕ) (E : List ℕ) → n ≤ m → Below n E → Below m E
@@ -176,10 +185,12 @@ below-up n m (x ∷ E) h b = (omega (arith, b .0), below-up n m E h (b .1))
 pub fits-up : (s i : ℕ) (E ps : List ℕ) (zs : List ℤ) → i ≤ s → Under (3 ^ i) ps → Below (3 ^ i) E → Fits i E ps zs → Fits s E ps zs
 fits-up s i E ps zs h u b f =
     fits-move i s E E ps zs f
-    (λ α m. sym (query-lift s i α E h (u α m) (below-up (3 ^ i) (3 ^ s) E (three-mono i s h) b) ∙ ap (λ (l : List ℕ). query i l α) (restrict-same i E b)))
+    (λ α m. sym (query-lift s i α E h (u α m) (below-up (3 ^ i) (3 ^ s) E (three-mono i s h) b)
+    ∙ ap (λ (l : List ℕ). query i l α) (restrict-same i E b)))
 
 -- the first answer is the number of patterns held
-pub fits-first : (s : ℕ) (E ps : List ℕ) (zs : List ℤ) (n : ℕ) (zs′ : List ℤ) (ps′ : List ℕ) → zs ≡ pos n ∷ zs′ → ps ≡ 0 ∷ ps′ → Fits s E ps zs → n ≡ length E
+pub fits-first : (s : ℕ) (E ps : List ℕ) (zs : List ℤ) (n : ℕ) (zs′ : List ℤ) (ps′ : List ℕ) → zs ≡ pos n ∷ zs′ → ps ≡ 0 ∷ ps′
+    → Fits s E ps zs → n ≡ length E
 unfolding Fits
 fits-first s E ps zs n zs′ ps′ e e′ f = go (rw (e, e′) at f)
   where
@@ -187,51 +198,64 @@ fits-first s E ps zs n zs′ ps′ e e′ f = go (rw (e, e′) at f)
     go g = let h : pos n ≡ pos (length E) = g .0 ∙ query-zero s E in cc
 
 -- the rows that the answers give are an oracle that fits
-pub rows-oracle : (s i : ℕ) (zs : List ℤ) (ps : List ℕ) (R : List Row) → i ≤ s → Facts i zs ps R → Oracle s (points R) × Fits s (points R) ps zs
-rows-oracle s i zs ps R h F =
-    (record { held = held; below = below-up (3 ^ i) (3 ^ s) (points R) (three-mono i s h) b }, fits-up s i (points R) ps zs h (F .under) b (F .fits))
+pub rows-oracle : (s i : ℕ) (zs : List ℤ) (ps : List ℕ) (R : List Row) → i ≤ s → Facts i zs ps R → Oracle s (repeated R)
+    × Fits s (repeated R) ps zs
+rows-oracle s i zs ps R h F = (
+  record { held = held; below = below-up (3 ^ i) (3 ^ s) (repeated R) (three-mono i s h) b },
+  fits-up s i (repeated R) ps zs h (F .under) b (F .fits),
+)
   where
-    b : Below (3 ^ i) (points R)
+    b : Below (3 ^ i) (repeated R)
     b = points-below (3 ^ i) R (F .rows .below)
 
-    held : length (points R) ≤ mostPoints
-    held = omega (arith, fits-first i (points R) ps zs (F .n) (F .later-answers) (F .later-products) (F .first-answer) (F .first-product) (F .fits), F .small)
+    held : length (repeated R) ≤ mostPoints
+    held =
+        omega (
+          arith,
+          fits-first i (repeated R) ps zs (F .n) (F .later-answers) (F .later-products) (F .first-answer) (F .first-product)
+              (F .fits),
+          F .small,
+        )
 
 -- ---- the end of a round
 
-one-third : (i : ℕ) (E : List ℕ) (q r d : ℕ) → d < 3 → q ≡ r + d * 3 ^ i → 0 < times q E → 0 < times r E + times (r + 3 ^ i) E + times (r + 2 * 3 ^ i) E
+one-third : (i : ℕ) (E : List ℕ) (q r d : ℕ) → d < 3 → q ≡ r + d * 3 ^ i → 0 < times q E
+    → 0 < times r E + times (r + 3 ^ i) E + times (r + 2 * 3 ^ i) E
 one-third i E q r zero hd e h = let f : q ≡ r = omega arith in let h′ : 0 < times r E = (rw f at h) in omega arith
 one-third i E q r (suc zero) hd e h = let f : q ≡ r + 3 ^ i = omega arith in let h′ : 0 < times (r + 3 ^ i) E = (rw f at h) in omega arith
 one-third i E q r (suc (suc zero)) hd e h = let h′ : 0 < times (r + 2 * 3 ^ i) E = (rw e at h) in omega arith
 one-third i E q r (suc (suc (suc d))) hd e h = absurd (omega arith)
 
-module _ (i : ℕ) (zs ws : List ℤ) (ps : List ℕ) (R₀ : List Row) (F : Facts i zs ps R₀) (all : length ws ≡ length (roundOf i (patterns R₀))) where
+module _ (i : ℕ) (zs ws : List ℤ) (ps : List ℕ) (R₀ : List Row) (F : Facts i zs ps R₀)
+    (all : length ws ≡ length (roundOf i (patterns R₀))) where
   abbrev Q : List ℕ
   Q = roundOf i (patterns R₀)
 
   -- counts that split those of the rows before give the answers before
   pub next-counts : (R : List Row) → NextRows i R₀ ws R → Counts i R₀ (ps ++ Q) (zs ++ ws) R
-  next-counts R N = record { rows = N .rows; extend = extend; give = fits-append (suc i) (points R) ps Q zs ws (F .lengths) early (N .give) }
+  next-counts R N =
+      record { rows = N .rows; extend = extend; give = fits-append (suc i) (repeated R) ps Q zs ws (F .lengths) early (N .give) }
     where
-      b : Below (3 ^ suc i) (points R)
+      b : Below (3 ^ suc i) (repeated R)
       b = points-below (3 ^ suc i) R (N .rows .below)
 
-      low-counts : Agree i (counts (restrict i (points R))) (counts (points R₀))
-      low-counts q h = restrict-count i q (points R) h b ∙ N .sums q h
+      low-counts : Agree i (counts (restrict i (repeated R))) (counts (repeated R₀))
+      low-counts q h = restrict-count i q (repeated R) h b ∙ N .sums q h
 
-      early : Fits (suc i) (points R) ps zs
+      early : Fits (suc i) (repeated R) ps zs
       early =
-          fits-move i (suc i) (points R₀) (points R) ps zs (F .fits)
-          (λ α m. sym (query-drop i α (points R) (F .under α m)
-          ∙ query-ext i α (restrict i (points R)) (points R₀) (F .under α m) (restrict-below i (points R)) (points-below (3 ^ i) R₀ (F .rows .below)) low-counts))
+          fits-move i (suc i) (repeated R₀) (repeated R) ps zs (F .fits)
+          (λ α m. sym (query-drop i α (repeated R) (F .under α m)
+          ∙ query-ext i α (restrict i (repeated R)) (repeated R₀) (F .under α m) (restrict-below i (repeated R))
+          (points-below (3 ^ i) R₀ (F .rows .below)) low-counts))
 
       extend : (q : ℕ) → 0 < times q (patterns R) → 0 < times (q % 3 ^ i) (patterns R₀)
       extend q h = go (digits i q (below-under (3 ^ suc i) (patterns R) (N .rows .below) q h)) (patterns-in q R (N .rows .positive) h)
         where
-          go : (r d : ℕ) × (r < 3 ^ i) × (d < 3) × (q ≡ r + d * 3 ^ i) → 0 < times q (points R) → 0 < times (q % 3 ^ i) (patterns R₀)
+          go : (r d : ℕ) × (r < 3 ^ i) × (d < 3) × (q ≡ r + d * 3 ^ i) → 0 < times q (repeated R) → 0 < times (q % 3 ^ i) (patterns R₀)
           go (r, d, hr, hd, e) k =
               let m : q % 3 ^ i ≡ r = ap (λ (x : ℕ). x % 3 ^ i) e ∙ low i d hr in
-              rw m (points-in r R₀ (omega (arith, N .sums r hr, one-third i (points R) q r d hd e k)))
+              rw m (points-in r R₀ (omega (arith, N .sums r hr, one-third i (repeated R) q r d hd e k)))
 
   pub next-determined : (R : List Row) → Determined i zs ps R₀ → NextRows i R₀ ws R → Determined (suc i) (zs ++ ws) (ps ++ Q) R
   unfolding Determined
@@ -254,8 +278,9 @@ module _ (i : ℕ) (zs ws : List ℤ) (ps : List ℕ) (R₀ : List Row) (F : Fac
               F .only (restrict i D) (restrict-below i D) early q k,
             );
         give =
-            fits-move (suc i) (suc i) D (points R) Q ws (fits-right (suc i) D ps Q zs ws (F .lengths) fD)
-            (λ α m. query-ext (suc i) α D (points R) (round-low i (patterns R₀) α m .1) bD (points-below (3 ^ suc i) R (rowsOf-rows (suc i) (counts D) .below))
+            fits-move (suc i) (suc i) D (repeated R) Q ws (fits-right (suc i) D ps Q zs ws (F .lengths) fD)
+            (λ α m. query-ext (suc i) α D (repeated R) (round-low i (patterns R₀) α m .1) bD
+            (points-below (3 ^ suc i) R (rowsOf-rows (suc i) (counts D) .below))
             (λ q k. sym (rowsOf-in (3 ^ suc i) (counts D) q k)));
       }
     where
@@ -280,7 +305,8 @@ module _ (i : ℕ) (zs ws : List ℤ) (ps : List ℕ) (R₀ : List Row) (F : Fac
 
       early : Fits i (restrict i D) ps zs
       early =
-          fits-move (suc i) i D (restrict i D) ps zs (fits-left (suc i) D ps Q zs ws (F .lengths) fD) (λ α m. query-drop i α D (F .under α m))
+          fits-move (suc i) i D (restrict i D) ps zs (fits-left (suc i) D ps Q zs ws (F .lengths) fD)
+          (λ α m. query-drop i α D (F .under α m))
 
 -- ---- a query is at most the number of points
 
@@ -356,7 +382,7 @@ determined-empty (suc i) = (
   record {
     rows = record { rising = unfold patterns Rising in tt; below = unfold patterns Below in tt; positive = unfold Positive in tt };
     extend = λ q h. absurd (unfold patterns in omega (arith, times-nil q));
-    give = unfold Fits points query in (refl, tt);
+    give = unfold Fits repeated query in (refl, tt);
   },
 )
   where
@@ -370,16 +396,22 @@ pub end-nonempty : (i : ℕ) (zs : List ℤ) (qs : List ℕ) → AtEnd i zs qs �
 unfolding AtEnd
 end-nonempty zero zs qs ((z, e), f) = omega (arith, ap length e)
 end-nonempty (suc i) zs qs a =
-    omega (arith, ap length (a .answers), length-append (a .before) (a .now), ap length (facts i (a .before) (a .asked) (a .rows) (a .after) .first-answer))
+    omega (
+      arith,
+      ap length (a .answers),
+      length-append (a .before) (a .now),
+      ap length (facts i (a .before) (a .asked) (a .rows) (a .after) .first-answer),
+    )
 
 -- the rows after a round in which the end of a round lies fit the answers up to that end
-pub fits-end : (s : ℕ) (zs : List ℤ) (ps : List ℕ) (i c j : ℕ) (before now : List ℤ) (qs asked : List ℕ) (R : List Row) → c ≤ s → i ≤ c → j ≤ length zs
+pub fits-end : (s : ℕ) (zs : List ℤ) (ps : List ℕ) (i c j : ℕ) (before now : List ℤ) (qs asked : List ℕ) (R : List Row) → c ≤ s → i ≤ c
+    → j ≤ length zs
     → Determined c before asked R → zs ≡ before ++ now → AtEnd i (take j zs) qs → (more : List ℕ) → ps ≡ asked ++ more
     → (E : List ℕ) × Oracle s E × Fits s E ps (take j zs)
 fits-end s zs ps i c j before now qs asked R hc hi hj C e a more p =
-    (points R, F .0, rw (p, same) (fits-take s (points R) (asked ++ more) before j (fits-more s (points R) asked more before (F .1))))
+    (repeated R, F .0, rw (p, same) (fits-take s (repeated R) (asked ++ more) before j (fits-more s (repeated R) asked more before (F .1))))
   where
-    F : Oracle s (points R) × Fits s (points R) asked before
+    F : Oracle s (repeated R) × Fits s (repeated R) asked before
     F = rows-oracle s c before asked R hc (facts c before asked R C)
 
     cut : take j zs ++ drop j zs ≡ before ++ now
@@ -390,13 +422,15 @@ fits-end s zs ps i c j before now qs asked R hc hi hj C e a more p =
     ends b rest qs′ f a′ =
         omega (
           arith,
-          end-unique i (take j zs) b (drop j zs) (rest ++ now) qs qs′ a a′ (cut ∙ ap (λ (l : List ℤ). l ++ now) f ∙ append-assoc b rest now),
+          end-unique i (take j zs) b (drop j zs) (rest ++ now) qs qs′ a a′
+              (cut ∙ ap (λ (l : List ℤ). l ++ now) f ∙ append-assoc b rest now),
           ap length f,
           length-append b rest,
         )
 
     short : Dec (i ≡ c) → length (take j zs) ≤ length before
-    short (yes f) = ends before [] asked (sym (append-nil before)) (subst (λ (x : ℕ). AtEnd x before asked) (sym f) (at-end c before asked R C))
+    short (yes f) =
+        ends before [] asked (sym (append-nil before)) (subst (λ (x : ℕ). AtEnd x before asked) (sym f) (at-end c before asked R C))
     short (no f) =
         let (b, n) = inside c i before asked (omega arith) (at-end c before asked R C) in
         ends (b .before) (b .now) (b .asked) (b .answers) (at-end i (b .before) (b .asked) (b .rows) (b .determined))

@@ -9,7 +9,7 @@ use lib.ListN.{length, replicate}
 use Rattle.signs.specs.Lists.{times, Below, Rising}
 use Rattle.signs.proofs.Lists.{times-nil, times-same, times-other, times-one, times-append}
 use Rattle.signs.proofs.Size.{below-under, rising-append}
-use Rattle.rounds.specs.Rows.{Row, patterns, points, Positive, IsRows, rowIf, rowsOf}
+use Rattle.rounds.specs.Rows.{Row, patterns, repeated, Positive, IsRows, rowIf, rowsOf}
 
 -- a number that is not above 0 is 0
 pub zero-unless : (n : ℕ) → (0 < n → ⊥) → n ≡ 0
@@ -33,55 +33,55 @@ times-replicate-other q x zero h = times-nil q
 times-replicate-other q x (suc k) h = times-other q x (replicate k x) h ∙ times-replicate-other q x k h
 
 -- the count of the first row's pattern, and of any other
-pub points-same : (r : Row) (R : List Row) → times (r .pattern) (points (r ∷ R)) ≡ r .count + times (r .pattern) (points R)
-unfolding points
+pub points-same : (r : Row) (R : List Row) → times (r .pattern) (repeated (r ∷ R)) ≡ r .count + times (r .pattern) (repeated R)
+unfolding repeated
 points-same r R =
-    omega (arith, times-append (r .pattern) (replicate (r .count) (r .pattern)) (points R), times-replicate-same (r .pattern) (r .count))
+    omega (arith, times-append (r .pattern) (replicate (r .count) (r .pattern)) (repeated R), times-replicate-same (r .pattern) (r .count))
 
-pub points-other : (q : ℕ) (r : Row) (R : List Row) → q ≢ r .pattern → times q (points (r ∷ R)) ≡ times q (points R)
-unfolding points
+pub points-other : (q : ℕ) (r : Row) (R : List Row) → q ≢ r .pattern → times q (repeated (r ∷ R)) ≡ times q (repeated R)
+unfolding repeated
 points-other q r R h =
-    omega (arith, times-append q (replicate (r .count) (r .pattern)) (points R), times-replicate-other q (r .pattern) (r .count) h)
+    omega (arith, times-append q (replicate (r .count) (r .pattern)) (repeated R), times-replicate-other q (r .pattern) (r .count) h)
 
 -- what has a count stands among the patterns
-pub points-in : (q : ℕ) (R : List Row) → 0 < times q (points R) → 0 < times q (patterns R)
+pub points-in : (q : ℕ) (R : List Row) → 0 < times q (repeated R) → 0 < times q (patterns R)
 unfolding patterns
-points-in q [] h = unfold points in h
+points-in q [] h = unfold repeated in h
 points-in q (r ∷ R) h = go (ℕ-discrete q (r .pattern)) (points-in q R)
   where
-    go : Dec (q ≡ r .pattern) → (0 < times q (points R) → 0 < times q (patterns R)) → 0 < times q (r .pattern ∷ patterns R)
+    go : Dec (q ≡ r .pattern) → (0 < times q (repeated R) → 0 < times q (patterns R)) → 0 < times q (r .pattern ∷ patterns R)
     go (yes e) ih = rw e (omega (arith, times-same (r .pattern) (patterns R)))
     go (no e) ih = omega (arith, points-other q r R e, times-other q (r .pattern) (patterns R) e, ih (omega (arith, points-other q r R e)))
 
-pub patterns-in : (q : ℕ) (R : List Row) → Positive R → 0 < times q (patterns R) → 0 < times q (points R)
+pub patterns-in : (q : ℕ) (R : List Row) → Positive R → 0 < times q (patterns R) → 0 < times q (repeated R)
 unfolding patterns Positive
-patterns-in q [] p h = unfold points in h
+patterns-in q [] p h = unfold repeated in h
 patterns-in q (r ∷ R) p h = go (ℕ-discrete q (r .pattern)) (patterns-in q R (p .1))
   where
-    go : Dec (q ≡ r .pattern) → (0 < times q (patterns R) → 0 < times q (points R)) → 0 < times q (points (r ∷ R))
+    go : Dec (q ≡ r .pattern) → (0 < times q (patterns R) → 0 < times q (repeated R)) → 0 < times q (repeated (r ∷ R))
     go (yes e) ih = rw e (omega (arith, points-same r R, p .0))
     go (no e) ih =
         omega (arith, points-other q r R e, ih (omega (arith, times-other q (r .pattern) (patterns R) e)))
 
 -- so where there is no pattern there is no count, and the other way round
-pub no-count : (R : List Row) (q : ℕ) → times q (patterns R) ≡ 0 → times q (points R) ≡ 0
-no-count R q e = zero-unless (times q (points R)) (λ h. let k : 0 < times q (patterns R) = points-in q R h in omega arith)
+pub no-count : (R : List Row) (q : ℕ) → times q (patterns R) ≡ 0 → times q (repeated R) ≡ 0
+no-count R q e = zero-unless (times q (repeated R)) (λ h. let k : 0 < times q (patterns R) = points-in q R h in omega arith)
 
-pub no-pattern : (R : List Row) (q : ℕ) → Positive R → times q (points R) ≡ 0 → times q (patterns R) ≡ 0
-no-pattern R q p e = zero-unless (times q (patterns R)) (λ h. let k : 0 < times q (points R) = patterns-in q R p h in omega arith)
+pub no-pattern : (R : List Row) (q : ℕ) → Positive R → times q (repeated R) ≡ 0 → times q (patterns R) ≡ 0
+no-pattern R q p e = zero-unless (times q (patterns R)) (λ h. let k : 0 < times q (repeated R) = patterns-in q R p h in omega arith)
 
 -- ---- rows are fixed by their counts
 
 -- no count at or below the first pattern in what comes after it
-fresh : (r : Row) (R : List Row) → Rising (patterns (r ∷ R)) → (q : ℕ) → q ≤ r .pattern → times q (points R) ≡ 0
+fresh : (r : Row) (R : List Row) → Rising (patterns (r ∷ R)) → (q : ℕ) → q ≤ r .pattern → times q (repeated R) ≡ 0
 unfolding patterns Rising
-fresh r R u q h = zero-unless (times q (points R)) (λ k. no-lt (u .0 q (points-in q R k)))
+fresh r R u q h = zero-unless (times q (repeated R)) (λ k. no-lt (u .0 q (points-in q R k)))
   where
     no-lt : r .pattern < q → ⊥
     no-lt k = omega arith
 
-pub no-points : (q : ℕ) → times q (points []) ≡ 0
-unfolding points
+pub no-points : (q : ℕ) → times q (repeated []) ≡ 0
+unfolding repeated
 no-points q = times-nil q
 
 rest : (r : Row) (R : List Row) → Rising (patterns (r ∷ R)) → Rising (patterns R)
@@ -89,7 +89,7 @@ unfolding patterns Rising
 rest r R u = u .1
 
 pub rows-ext : (R R′ : List Row) → Rising (patterns R) → Positive R → Rising (patterns R′) → Positive R′
-    → ((q : ℕ) → times q (points R) ≡ times q (points R′)) → R ≡ R′
+    → ((q : ℕ) → times q (repeated R) ≡ times q (repeated R′)) → R ≡ R′
 unfolding Positive
 rows-ext [] [] u p u′ p′ e = refl
 rows-ext [] (r ∷ R) u p u′ p′ e = absurd (omega (arith, e (r .pattern), no-points (r .pattern), points-same r R, p′ .0))
@@ -116,53 +116,53 @@ rows-ext (r ∷ R) (r′ ∷ R′) u p u′ p′ e =
 
     same-count : r .count ≡ r′ .count
     same-count =
-        let at : times x (points (r′ ∷ R′)) ≡ r′ .count + times x (points R′) = rw same-pattern (points-same r′ R′) in
+        let at : times x (repeated (r′ ∷ R′)) ≡ r′ .count + times x (repeated R′) = rw same-pattern (points-same r′ R′) in
         omega (arith, e x, at, points-same r R, fresh r R u x (omega arith), fresh r′ R′ u′ x (omega (arith, same-pattern)))
 
-    tails : (q : ℕ) → times q (points R) ≡ times q (points R′)
+    tails : (q : ℕ) → times q (repeated R) ≡ times q (repeated R′)
     tails q = go (ℕ-discrete q x)
       where
-        go : Dec (q ≡ x) → times q (points R) ≡ times q (points R′)
+        go : Dec (q ≡ x) → times q (repeated R) ≡ times q (repeated R′)
         go (yes h) = omega (arith, fresh r R u q (omega arith), fresh r′ R′ u′ q (omega (arith, same-pattern)))
         go (no h) = omega (arith, e q, points-other q r R h, points-other q r′ R′ (λ k. h (k ∙ sym same-pattern)))
 
 -- ---- every count function has rows
 
-pub points-append : (q : ℕ) (R R′ : List Row) → times q (points (R ++ R′)) ≡ times q (points R) + times q (points R′)
+pub points-append : (q : ℕ) (R R′ : List Row) → times q (repeated (R ++ R′)) ≡ times q (repeated R) + times q (repeated R′)
 points-append q [] R′ = omega (arith, no-points q)
 points-append q (r ∷ R) R′ = go (ℕ-discrete q (r .pattern)) (points-append q R R′)
   where
-    go : Dec (q ≡ r .pattern) → times q (points (R ++ R′)) ≡ times q (points R) + times q (points R′)
-        → times q (points (r ∷ (R ++ R′))) ≡ times q (points (r ∷ R)) + times q (points R′)
+    go : Dec (q ≡ r .pattern) → times q (repeated (R ++ R′)) ≡ times q (repeated R) + times q (repeated R′)
+        → times q (repeated (r ∷ (R ++ R′))) ≡ times q (repeated (r ∷ R)) + times q (repeated R′)
     go (yes e) ih =
-        let a : times q (points (r ∷ (R ++ R′))) ≡ r .count + times q (points (R ++ R′)) = rw e (points-same r (R ++ R′)) in
-        let b : times q (points (r ∷ R)) ≡ r .count + times q (points R) = rw e (points-same r R) in
+        let a : times q (repeated (r ∷ (R ++ R′))) ≡ r .count + times q (repeated (R ++ R′)) = rw e (points-same r (R ++ R′)) in
+        let b : times q (repeated (r ∷ R)) ≡ r .count + times q (repeated R) = rw e (points-same r R) in
         omega arith
     go (no h) ih = omega (arith, points-other q r (R ++ R′) h, points-other q r R h)
 
-pub rowIf-same : (q k : ℕ) → times q (points (rowIf q k)) ≡ k
+pub rowIf-same : (q k : ℕ) → times q (repeated (rowIf q k)) ≡ k
 unfolding rowIf
 rowIf-same q zero = no-points q
 rowIf-same q (suc k) = omega (arith, points-same (record { pattern = q; count = suc k }) [], no-points q)
 
-pub rowIf-other : (q x k : ℕ) → q ≢ x → times q (points (rowIf x k)) ≡ 0
+pub rowIf-other : (q x k : ℕ) → q ≢ x → times q (repeated (rowIf x k)) ≡ 0
 unfolding rowIf
 rowIf-other q x zero h = no-points q
 rowIf-other q x (suc k) h = omega (arith, points-other q (record { pattern = x; count = suc k }) [] h, no-points q)
 
 -- no count at or past n
-pub rowsOf-out : (n : ℕ) (c : ℕ → ℕ) (q : ℕ) → n ≤ q → times q (points (rowsOf n c)) ≡ 0
+pub rowsOf-out : (n : ℕ) (c : ℕ → ℕ) (q : ℕ) → n ≤ q → times q (repeated (rowsOf n c)) ≡ 0
 unfolding rowsOf
 rowsOf-out zero c q h = no-points q
 rowsOf-out (suc n) c q h =
     omega (arith, points-append q (rowsOf n c) (rowIf n (c n)), rowsOf-out n c q (omega arith), rowIf-other q n (c n) (omega arith))
 
-pub rowsOf-in : (n : ℕ) (c : ℕ → ℕ) (q : ℕ) → q < n → times q (points (rowsOf n c)) ≡ c q
+pub rowsOf-in : (n : ℕ) (c : ℕ → ℕ) (q : ℕ) → q < n → times q (repeated (rowsOf n c)) ≡ c q
 unfolding rowsOf
 rowsOf-in zero c q h = absurd (omega arith)
 rowsOf-in (suc n) c q h = go (ℕ-discrete q n) (rowsOf-in n c q)
   where
-    go : Dec (q ≡ n) → (q < n → times q (points (rowsOf n c)) ≡ c q) → times q (points (rowsOf n c ++ rowIf n (c n))) ≡ c q
+    go : Dec (q ≡ n) → (q < n → times q (repeated (rowsOf n c)) ≡ c q) → times q (repeated (rowsOf n c ++ rowIf n (c n))) ≡ c q
     go (yes e) ih =
         rw e (omega (arith, points-append n (rowsOf n c) (rowIf n (c n)), rowsOf-out n c n (omega arith), rowIf-same n (c n)))
     go (no h′) ih =
@@ -233,10 +233,10 @@ unfolding patterns
 length-patterns [] = refl
 length-patterns (r ∷ R) = ap suc (length-patterns R)
 
-pub points-below : (n : ℕ) (R : List Row) → Below n (patterns R) → Below n (points R)
-unfolding patterns points Below
+pub points-below : (n : ℕ) (R : List Row) → Below n (patterns R) → Below n (repeated R)
+unfolding patterns repeated Below
 points-below n [] b = tt
-points-below n (r ∷ R) b = below-append n (replicate (r .count) (r .pattern)) (points R) (copies (r .count)) (points-below n R (b .1))
+points-below n (r ∷ R) b = below-append n (replicate (r .count) (r .pattern)) (repeated R) (copies (r .count)) (points-below n R (b .1))
   where
     copies : (k : ℕ) → Below n (replicate k (r .pattern))
     copies zero = tt

@@ -3,17 +3,18 @@
 --
 --   roundOf i L            == the products of round i + 1 after rows with the patterns L: "every a in A with 3^(i−1) added, in order, then
 --                             every a with 2 × 3^(i−1) added", A being the adapted list of L
---   Counts i R₀ ps zs R    == R are the rows of round i + 1 after the rows R₀: "the counts are the whole numbers, 0 or more, on those rows each
---                             extended by the three signs of Pi, that give every answer so far"; "The rows for P1 .. Pi are those with a
---                             count above 0"
+--   Counts i R₀ ps zs R    == R are the rows of round i + 1 after the rows R₀: "the counts are the whole numbers, 0 or more, on those rows
+--                             each extended by the three signs of Pi, that give every answer so far"; "The rows for P1 .. Pi are those with
+--                             a count above 0"
 --   Answered i After zs ps == round i + 1 has just ended: all its products are answered, after rounds 0 .. i, of whose rows After speaks
 --   Determined i zs ps R   == rounds 0 .. i have just ended, and the answers give the rows R; "Round 0 asks product 0 and gets n"
---   Past i zs              == rounds 0 .. i have ended with a first part of the answers zs; in it the rows, and the products asked until then
+--   Past i zs              == rounds 0 .. i have ended with a first part of the answers zs; in it the rows, and the products asked until
+--                             then
 --   RowsAfter i zs k       == after round i there are k rows
---   AtEnd i zs ps          == round i has just ended, whether or not counts give its answers: "A round has ended once those before it have and
---                             all its products are answered"
---   LastEnded s zs         == the last round has ended with a first part of the answers zs: "the last round is s, or 0 where the first answer
---                             is 0"
+--   AtEnd i zs ps          == round i has just ended, whether or not counts give its answers: "A round has ended once those before it have
+--                             and all its products are answered"
+--   LastEnded s zs         == the last round has ended with a first part of the answers zs: "the last round is s, or 0 where the first
+--                             answer is 0"
 --   InOrder s zs ps        == the products ps asked are "always the next of the rounds' products in the order given for them": those of the
 --                             rounds that have ended, and of the next round the first ones
 use mathlib.Core.Path.{_≡_}
@@ -25,7 +26,7 @@ use lib.ListN.{length, take}
 use Rattle.refusals.specs.Limits.{mostPoints}
 use Rattle.signs.specs.Lists.{times, shift}
 use Rattle.signs.specs.Adapted.{adapted}
-use Rattle.rounds.specs.Rows.{Row, patterns, points, IsRows, rowIf, Fits}
+use Rattle.rounds.specs.Rows.{Row, patterns, repeated, IsRows, rowIf, Fits}
 
 unfoldable pub roundOf : ℕ → List ℕ → List ℕ
 roundOf i L = shift (3 ^ i) (adapted i L) ++ shift (2 * 3 ^ i) (adapted i L)
@@ -35,7 +36,7 @@ roundOf i L = shift (3 ^ i) (adapted i L) ++ shift (2 * 3 ^ i) (adapted i L)
 pub record Counts (i : ℕ) (R₀ : List Row) (ps : List ℕ) (zs : List ℤ) (R : List Row) : Type 0 where
   pub rows : IsRows (suc i) R
   pub extend : (q : ℕ) → 0 < times q (patterns R) → 0 < times (q % 3 ^ i) (patterns R₀)
-  pub give : Fits (suc i) (points R) ps zs
+  pub give : Fits (suc i) (repeated R) ps zs
 
 pub record Answered (i : ℕ) (After : List ℤ → List ℕ → List Row → Type 0) (zs : List ℤ) (ps : List ℕ) : Type 0 where
   pub before : List ℤ

@@ -1,18 +1,19 @@
 -- Rows, oracles and the realized list (document 01, "The run", and demand 3).
 --
---   Row                       == a pattern with its count
---   patterns R, counts R      == the rows' patterns, and their counts
---   points R                  == each pattern as often as its count says
---   rowsWith P C              == the rows with the patterns P and the counts C
---   IsRows i R                == rows for P1 .. Pi: patterns rising, counts above 0
---   IsAt R p r                == the row r stands at position p, counted from 0, in R
---   rowsOf n c                == the rows of the patterns below n that have a count c above 0, rising
---   restrict i E              == the patterns of P1 .. Pi alone, of points with the patterns E
---   Oracle s E                == E is what an examiner holds: "at most 64 sign patterns, repeats counted", of s polynomials
---   realized s E              == its key: "each pattern number held, once, rising, with how often it is held; it may be empty"
---   IsRealized E K            == the same in demand 3's words: "each pattern that occurs, once, in rising order, with its true count"
---   Fits s E ps zs            == E fits the answers zs to the products ps: "each answer taken is the sum, over the patterns held, repeats counted,
---                                of the sign of the product it answers; with no answer taken, every one fits"
+--   Row                  == a pattern with its count
+--   patterns R, counts R == the rows' patterns, and their counts
+--   repeated R           == each pattern as often as its count says
+--   rowsWith P C         == the rows with the patterns P and the counts C
+--   IsRows i R           == rows for P1 .. Pi: patterns rising, counts above 0
+--   IsAt R p r           == the row r stands at position p, counted from 0, in R
+--   rowsOf n c           == the rows of the patterns below n that have a count c above 0, rising
+--   restrict i E         == the patterns of P1 .. Pi alone, of points with the patterns E
+--   Oracle s E           == E is what an examiner holds: "at most 64 sign patterns, repeats counted", of s polynomials
+--   realized s E         == its key: "each pattern number held, once, rising, with how often it is held; it may be empty"
+--   IsRealized E K       == K is the realized list of E, in demand 3's words: "each pattern that occurs, once, in rising order, with its
+--                           true count"
+--   Fits s E ps zs       == E fits the answers zs to the products ps: "each answer taken is the sum, over the patterns held, repeats
+--                           counted, of the sign of the product it answers; with no answer taken, every one fits"
 use mathlib.Core.Path.{_≡_}
 use mathlib.Core.Logic.{_↔_}
 use mathlib.Core.List.{List, [], _∷_, _++_}
@@ -42,9 +43,9 @@ rowsWith [] C = []
 rowsWith (q ∷ P) [] = []
 rowsWith (q ∷ P) (c ∷ C) = record { pattern = q; count = c } ∷ rowsWith P C
 
-unfoldable pub points : List Row → List ℕ
-points [] = []
-points (r ∷ R) = replicate (r .count) (r .pattern) ++ points R
+unfoldable pub repeated : List Row → List ℕ
+repeated [] = []
+repeated (r ∷ R) = replicate (r .count) (r .pattern) ++ repeated R
 
 unfoldable pub Positive : List Row → Type 0
 Positive [] = Unit {0}

@@ -11,15 +11,15 @@ ghost use Rattle.signs.specs.Lists.{Below, Rising, isBelow};
 ghost use Rattle.signs.specs.Adapted.{adapted as adaptedOf};
 ghost use Rattle.rounds.specs.Rows.{rowIf, rowsWith};
 ghost use Rattle.rounds.specs.RoundEnd.{roundRows};
-ghost use Rattle.round_end.specs.Outcome.{Ended, Left};
-ghost use Rattle.runs.specs.Run.{productAt};
+ghost use Rattle.run_round_end.specs.Outcome.{Ended, Left};
+ghost use Rattle.runs.specs.Run.{roundProduct};
 ghost use Rattle.run_parts.specs.Parts.{inLimits, heldRows};
 use adapted::adapted;
 use refusals::MOST_POLYNOMIALS;
 use refusals::MOST_PRODUCTS;
 use refusals::MOST_ROWS;
-use round_end::Next;
-use round_end::next_rows;
+use run_round_end::Next;
+use run_round_end::next_rows;
 use signs::Product;
 use signs::below;
 use signs::power;
@@ -95,9 +95,9 @@ pub fn products_of(i: usize, patterns: &[u16], n: usize) -> [u16; MOST_ROWS]
 }
 
 // The k-th product of round i + 1, where the adapted list of the rows before it is the first n numbers of the list.
-pub fn product_at(i: usize, list: &[u16], n: usize, k: usize) -> Product
+pub fn round_product(i: usize, list: &[u16], n: usize, k: usize) -> Product
     requires { ⌜ (i < mostPolynomials) × (n ≤ length (now list)) × Below (3 ^ i) (take n (now list)) × (k < 2 * n) ⌝ }
-    ensures { λ r. ⌜ r .0 ≡ productAt i (take n (now (list .entry))) k ⌝ }
+    ensures { λ r. ⌜ r .0 ≡ roundProduct i (take n (now (list .entry))) k ⌝ }
 {
     let once = power(i);
     let twice = 2 * once;

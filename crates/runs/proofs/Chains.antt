@@ -1,7 +1,7 @@
--- From the rules to code: a chain of calls each of which keeps its contract is a run by the rules, so demand 3 holds of it.
--- C is the code's record, `view` reads a record of the rules out of it, and Starts, Answers, Fetches, Copies are what the four contracts ensure:
--- Starts s c x that a start for s gives the record c and the step x, Answers c z c′ x that the answer z to the record c leaves c′ and gives x,
--- and so on.
+-- From the rules to code: a chain of calls each of which keeps its contract is a run by the rules, so demand 3 holds of it. C is the code's
+-- record, `view` reads a record of the rules out of it, and Starts, Answers, Fetches, Copies are what the four contracts ensure: Starts s c
+-- x that a start for s gives the record c and the step x, Answers c z c′ x that the answer z to the record c leaves c′ and gives x, and so
+-- on.
 use mathlib.Core.Path.{_≡_, refl, ap, ap₂, _∙_}
 use mathlib.Core.List.{List, [], _∷_}
 use Prim.Native.Nat.{ℕ, _≤_}
@@ -9,7 +9,8 @@ use lib.IntN.{ℤ}
 use Rattle.refusals.specs.Limits.{mostPolynomials}
 use Rattle.rounds.specs.RoundEnd.{roundRows}
 use Rattle.runs.specs.Run.{State, startOf, Step, ask, Fetch, Copy, running, answerOf, fetchOf, copyOf}
-use Rattle.runs.specs.Demand.{Call, answer, fetch, copy, Event, answered, fetched, copied-to, play, events, phaseOf, taken, given, Claim}
+use Rattle.runs.specs.Demand.{Call, answer, fetch, copy, Event, answered, fetched, copiedTo, stateAfter, events, phaseOf, taken}
+use Rattle.runs.specs.Demand.{given, Claim}
 use Rattle.runs.proofs.DemandThree.{demand3}
 use Rattle.runs.specs.Reached.{Reached}
 use Rattle.runs.proofs.Reached.{reached}
@@ -24,7 +25,7 @@ module _ (C : Type 0) (view : C → State) (Starts : ℕ → C → Step → Type
     by-fetch : {c d : C} {p : ℕ} {x : Fetch} {cs : List Call} {t : List Event}
         → Fetches c p x → Chain c cs t d → Chain c (fetch p ∷ cs) (fetched p x ∷ t) d
     by-copy : {c d : C} {a b : List ℕ} {x : Copy} {cs : List Call} {t : List Event}
-        → Copies c a b x → Chain c cs t d → Chain c (copy a b ∷ cs) (copied-to a b x ∷ t) d
+        → Copies c a b x → Chain c cs t d → Chain c (copy a b ∷ cs) (copiedTo a b x ∷ t) d
 
   -- the same after a start for s: "the start" of demand 3's list of calls
   pub record FromStart (s : ℕ) (cs : List Call) (t : List Event) (d : C) : Type 0 where
@@ -42,27 +43,30 @@ module _ (C : Type 0) (view : C → State) (Starts : ℕ → C → Step → Type
     pub copies : (c : C) (a b : List ℕ) (x : Copy) → Copies c a b x → x ≡ copyOf (view c) a b
 
   chain-plays : Keeps → {c d : C} {cs : List Call} {t : List Event} → Chain c cs t d
-      → (t ≡ events roundRows (view c) cs) × (view d ≡ play roundRows (view c) cs)
-  unfolding events play
+      → (t ≡ events roundRows (view c) cs) × (view d ≡ stateAfter roundRows (view c) cs)
+  unfolding events stateAfter
   chain-plays k stop = (refl, refl)
   chain-plays k (by-answer {c} {c′} {d} {z} {x} {cs} {t} a h) = next (k .answers c z c′ x a) (chain-plays k h)
     where
       next : (view c′ ≡ answerOf roundRows (view c) z .0) × (x ≡ answerOf roundRows (view c) z .1)
-          → (t ≡ events roundRows (view c′) cs) × (view d ≡ play roundRows (view c′) cs)
+          → (t ≡ events roundRows (view c′) cs) × (view d ≡ stateAfter roundRows (view c′) cs)
           → (answered z x ∷ t ≡ answered z (answerOf roundRows (view c) z .1) ∷ events roundRows (answerOf roundRows (view c) z .0) cs)
-          × (view d ≡ play roundRows (answerOf roundRows (view c) z .0) cs)
-      next (v, w) (e, f) =
-          (ap₂ _∷_ (ap (answered z) w) (e ∙ ap (λ (r : State). events roundRows r cs) v), f ∙ ap (λ (r : State). play roundRows r cs) v)
+          × (view d ≡ stateAfter roundRows (answerOf roundRows (view c) z .0) cs)
+      next (v, w) (e, f) = (
+        ap₂ _∷_ (ap (answered z) w) (e ∙ ap (λ (r : State). events roundRows r cs) v),
+        f
+            ∙ ap (λ (r : State). stateAfter roundRows r cs) v,
+      )
   chain-plays k (by-fetch {c} {p = p} {x} a h) = let (e, f) = chain-plays k h in (ap₂ _∷_ (ap (fetched p) (k .fetches c p x a)) e, f)
-  chain-plays k (by-copy {c} {a = a} {b} {x} q h) = let (e, f) = chain-plays k h in (ap₂ _∷_ (ap (copied-to a b) (k .copies c a b x q)) e, f)
+  chain-plays k (by-copy {c} {a = a} {b} {x} q h) = let (e, f) = chain-plays k h in (ap₂ _∷_ (ap (copiedTo a b) (k .copies c a b x q)) e, f)
 
   -- what a run gives and leaves is what the rules give and leave
   run-plays : Keeps → (s : ℕ) → 1 ≤ s → s ≤ mostPolynomials → {cs : List Call} {t : List Event} {d : C} → FromStart s cs t d
-      → (t ≡ events roundRows (startOf s) cs) × (view d ≡ play roundRows (startOf s) cs)
+      → (t ≡ events roundRows (startOf s) cs) × (view d ≡ stateAfter roundRows (startOf s) cs)
   run-plays k s h m {cs} u =
       let (v, w) = k .starts s (u .began) (u .first) h m (u .start) in
       let (e, f) = chain-plays k (u .calls) in
-      (e ∙ ap (λ (r : State). events roundRows r cs) v, f ∙ ap (λ (r : State). play roundRows r cs) v)
+      (e ∙ ap (λ (r : State). events roundRows r cs) v, f ∙ ap (λ (r : State). stateAfter roundRows r cs) v)
 
   -- DEMAND 3 of the code, for every chain of calls after a start
   pub demand3-chain : Keeps → (s : ℕ) → 1 ≤ s → s ≤ mostPolynomials → {cs : List Call} {t : List Event} {d : C} → FromStart s cs t d
@@ -70,5 +74,6 @@ module _ (C : Type 0) (view : C → State) (Starts : ℕ → C → Step → Type
   demand3-chain k s h m {cs} {t} {d} u = let (e, f) = run-plays k s h m u in rw (e, f) (demand3 s h m cs)
 
   -- and what its records hold
-  pub reached-chain : Keeps → (s : ℕ) → 1 ≤ s → s ≤ mostPolynomials → {cs : List Call} {t : List Event} {d : C} → FromStart s cs t d → Reached s (view d)
+  pub reached-chain : Keeps → (s : ℕ) → 1 ≤ s → s ≤ mostPolynomials → {cs : List Call} {t : List Event} {d : C} → FromStart s cs t d
+      → Reached s (view d)
   reached-chain k s h m {cs} {t} {d} u = let (e, f) = run-plays k s h m u in rw f (reached s h m cs)

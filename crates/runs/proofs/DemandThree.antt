@@ -11,11 +11,11 @@ use lib.ListN.{length, replicate, take, drop, length-replicate, length-append, l
 use lib.Seq.{take-length, take-take}
 use Rattle.refusals.specs.Limits.{mostPolynomials}
 use Rattle.signs.specs.Lists.{times}
-use Rattle.runs.specs.Demand.{Call, Event, play, events, taken, given, waiting, SomeFits, Claim, ClaimFor, Demand3}
+use Rattle.runs.specs.Demand.{Call, Event, stateAfter, events, taken, given, waiting, SomeFits, Claim, ClaimFor, Demand3}
 use Rattle.rounds.specs.NextRows.{RightRows}
 use Rattle.rounds.specs.RoundEnd.{roundRows}
 use Rattle.rounds.specs.Rounds.{roundOf, Answered, Determined, AtEnd, LastEnded, Past, InOrder, RowsAfter}
-use Rattle.rounds.specs.Rows.{Row, patterns, points, Positive, Oracle, realized, IsRealized, Fits}
+use Rattle.rounds.specs.Rows.{Row, patterns, repeated, Positive, Oracle, realized, IsRealized, Fits}
 use Rattle.runs.specs.Run.{Phase, running, finished, closed, State, startOf}
 use Rattle.rounds.proofs.RowLaws.{times-single}
 use Rattle.rounds.proofs.Realized.{realized-true}
@@ -23,16 +23,17 @@ use Rattle.rounds.proofs.Answers.{Facts, facts, round-length}
 use Rattle.runs.proofs.Phases.{running-not-closed, finished-not-closed, running-not-finished, closed-not-finished}
 use Rattle.runs.proofs.Invariant.{At, Inv, start-inv, asked-once, going-length, going-fits}
 use Rattle.rounds.proofs.RoundEnds.{roundRows-right}
-use Rattle.rounds.proofs.Rounds.{at-end, answered-past, end-nonempty, not-ended, rows-oracle, realized-rows, fits-first, fits-take, fits-end}
+use Rattle.rounds.proofs.Rounds.{at-end, answered-past, end-nonempty, not-ended, rows-oracle, realized-rows, fits-first, fits-take}
+use Rattle.rounds.proofs.Rounds.{fits-end}
 use Rattle.runs.proofs.Story.{Story, story, not-done-no-rows}
 use Rattle.rounds.proofs.Questions.{exact-sum, one-row, at-most-593}
 use Rattle.signs.proofs.Size.{total}
 
-points-some : (R : List Row) → Positive R → 0 < length R → 0 < length (points R)
-unfolding Positive points
+points-some : (R : List Row) → Positive R → 0 < length R → 0 < length (repeated R)
+unfolding Positive repeated
 points-some [] p h = h
 points-some (r ∷ R) p h =
-    omega (arith, length-append (replicate (r .count) (r .pattern)) (points R), length-replicate (r .count) (r .pattern), p .0)
+    omega (arith, length-append (replicate (r .count) (r .pattern)) (repeated R), length-replicate (r .count) (r .pattern), p .0)
 
 module _ (s : ℕ) (h : 1 ≤ s) (r : State) (zs : List ℤ) (ps : List ℕ) where
   each-length : (f : Phase) (k : ℕ) → At s r zs ps f k → length ps ≡ length zs + waiting f
@@ -44,7 +45,8 @@ module _ (s : ℕ) (h : 1 ≤ s) (r : State) (zs : List ℤ) (ps : List ℕ) whe
 
   once-all : (f : Phase) (k : ℕ) → At s r zs ps f k → (α : ℕ) → times α ps ≤ 1
   once-all running zero (a, b, c) α = rw b (times-single α 0)
-  once-all running (suc i) g α = rw (g .products) (asked-once i (suc (length (r .answers))) (g .before) (g .asked) (r .rows) (g .determined) α)
+  once-all running (suc i) g α =
+      rw (g .products) (asked-once i (suc (length (r .answers))) (g .before) (g .asked) (r .rows) (g .determined) α)
   once-all finished k c α = facts s zs ps (r .rows) c .once α
   once-all closed k x α = x .once α
 
@@ -62,7 +64,8 @@ module _ (s : ℕ) (h : 1 ≤ s) (r : State) (zs : List ℤ) (ps : List ℕ) whe
   order-all finished k c = last-round s h c
     where
       last-round : (m : ℕ) → 1 ≤ m → Determined m zs ps (r .rows)
-          → (ps ≡ 0 ∷ []) ⊎ ((i : ℕ) × (i < m) × (a : Past i zs) × (more : ℕ) × (ps ≡ a .asked ++ take more (roundOf i (patterns (a .rows)))))
+          → (ps ≡ 0 ∷ []) ⊎ ((i : ℕ) × (i < m) × (a : Past i zs) × (more : ℕ)
+          × (ps ≡ a .asked ++ take more (roundOf i (patterns (a .rows)))))
       last-round zero h c = absurd (omega arith)
       last-round (suc i) h c =
           let a : Answered i (Determined i) zs ps = (unfold Determined in c .0) in
@@ -96,7 +99,8 @@ module _ (s : ℕ) (h : 1 ≤ s) (r : State) (zs : List ℤ) (ps : List ℕ) whe
       go running zero (a, b, c) = absurd (omega (arith, end-nonempty i (take m zs) qs e, length-take m zs, ap length a))
       go running (suc c) g = absurd (none-later (going-fits s r zs ps c g m i qs hm e))
       go finished c d =
-          absurd (none-later (fits-end s zs ps i s m zs [] qs ps (r .rows) (omega arith) hi hm d (sym (append-nil zs)) e [] (sym (append-nil ps))))
+          absurd (none-later (fits-end s zs ps i s m zs [] qs ps (r .rows) (omega arith) hi hm d (sym (append-nil zs)) e []
+          (sym (append-nil ps))))
       go closed c x = last (decLt m (length zs))
         where
           last : Dec (m < length zs) → (closed ≡ closed) × (length zs ≡ m)
@@ -117,23 +121,27 @@ module _ (s : ℕ) (h : 1 ≤ s) (r : State) (zs : List ℤ) (ps : List ℕ) whe
       F : Facts i (g .before) (g .asked) (r .rows)
       F = facts i (g .before) (g .asked) (r .rows) (g .determined)
 
-      held : r .n ≡ length (points (r .rows))
-      held = fits-first i (points (r .rows)) (g .asked) (g .before) (r .n) (g .later-answers) (F .later-products) (g .first-answer) (F .first-product) (F .fits)
+      held : r .n ≡ length (repeated (r .rows))
+      held =
+          fits-first i (repeated (r .rows)) (g .asked) (g .before) (r .n) (g .later-answers) (F .later-products) (g .first-answer)
+          (F .first-product) (F .fits)
 
       go : (k : ℕ) → (take k zs ≡ pos 0 ∷ []) ⊎ ((qs : List ℕ) × AtEnd s (take k zs) qs) → ⊥
       go k (inl e) =
           let m : pos 0 ∷ drop k zs ≡ pos (r .n) ∷ (g .later-answers ++ r .answers) =
-          ap (λ (l : List ℤ). l ++ drop k zs) (sym e) ∙ take-append-drop k zs ∙ g .answers ∙ ap (λ (l : List ℤ). l ++ r .answers) (g .first-answer) in
+          ap (λ (l : List ℤ). l ++ drop k zs) (sym e) ∙ take-append-drop k zs ∙ g .answers
+          ∙ ap (λ (l : List ℤ). l ++ r .answers) (g .first-answer) in
           let n : 0 ≡ r .n = cc in
           omega (arith, held, points-some (r .rows) (F .rows .positive) (omega (arith, g .unfinished, round-length i (r .rows) (F .rows))))
       go k (inr (qs, e)) =
           not-ended s i (take k zs) (drop k zs) (g .before) (r .answers) qs (g .asked) (r .rows) (g .in-range) e (g .determined)
           (take-append-drop k zs ∙ g .answers) (g .unfinished)
   done-all finished k c =
-      let F : Oracle s (points (r .rows)) × Fits s (points (r .rows)) ps zs = rows-oracle s s zs ps (r .rows) (omega arith) (facts s zs ps (r .rows) c) in (
+      let F : Oracle s (repeated (r .rows))
+      × Fits s (repeated (r .rows)) ps zs = rows-oracle s s zs ps (r .rows) (omega arith) (facts s zs ps (r .rows) c) in (
         λ e. (
           (length zs, inr (ps, subst (λ (l : List ℤ). AtEnd s l ps) (sym (take-length zs)) (at-end s zs ps (r .rows) c))),
-          (points (r .rows), F .0, F .1),
+          (repeated (r .rows), F .0, F .1),
         ),
         λ t. refl,
       )
@@ -174,7 +182,8 @@ module _ (s : ℕ) (h : 1 ≤ s) (r : State) (zs : List ℤ) (ps : List ℕ) whe
 
   -- ---- the claim
 
-  claim : (t : List Event) (R : List Row) → Story s running R [] (0 ∷ []) t r → zs ≡ taken running t → ps ≡ 0 ∷ given running t → Inv s r zs ps
+  claim : (t : List Event) (R : List Row) → Story s running R [] (0 ∷ []) t r → zs ≡ taken running t → ps ≡ 0 ∷ given running t
+      → Inv s r zs ps
       → Claim s ps zs (r .phase) (r .total) t
   claim t R S a b I =
       record {
@@ -203,10 +212,10 @@ module _ (s : ℕ) (h : 1 ≤ s) (r : State) (zs : List ℤ) (ps : List ℕ) whe
 -- for every s, and every way to end a round that is right
 pub demand3-for : (N : ℕ → List Row → List ℤ → Option (List Row)) → RightRows N → (s : ℕ) → 1 ≤ s → (calls : List Call) → ClaimFor N s calls
 demand3-for N right s h calls =
-    let S : Story s running [] [] (0 ∷ []) (events N (startOf s) calls) (play N (startOf s) calls) =
+    let S : Story s running [] [] (0 ∷ []) (events N (startOf s) calls) (stateAfter N (startOf s) calls) =
     story N right s h calls (startOf s) [] (0 ∷ []) (start-inv s) in
-    subst (λ (f : Phase). Claim s (0 ∷ given running t) (taken running t) f (play N (startOf s) calls .total) t) (sym (S .phase))
-    (claim s h (play N (startOf s) calls) (taken running t) (0 ∷ given running t) t [] S refl refl (S .inv))
+    subst (λ (f : Phase). Claim s (0 ∷ given running t) (taken running t) f (stateAfter N (startOf s) calls .total) t) (sym (S .phase))
+    (claim s h (stateAfter N (startOf s) calls) (taken running t) (0 ∷ given running t) t [] S refl refl (S .inv))
   where
     t : List Event
     t = events N (startOf s) calls

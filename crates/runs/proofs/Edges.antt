@@ -5,14 +5,16 @@ use Prim.Native.Nat.{ℕ}
 use lib.IntN.{ℤ, pos, negsuc}
 use Rattle.integers.specs.Sums.{sumAbs}
 use Rattle.signs.specs.Lists.{times, upTo, keep, shift, isBelow, isRising}
-use Rattle.signs.specs.Adapted.{signsOf, lows, adapted}
+use Rattle.signs.specs.Adapted.{signsOf, restrictions, adapted}
 use Rattle.signs.specs.Tally.{fold, tally}
-use Rattle.solutions.specs.Solver.{_⊕_, _⊖_, half, allEven, queries, block, known-1, known-2, knownDifference, knownSum, glue, bySign, combine, solve, lookup, weightOf, values, withinLimit, solverOf}
+use Rattle.solutions.specs.Solver.{_⊕_, _⊖_, half, allEven, queries, block, known1, known2, knownDifference, knownSum, glue, bySign}
+use Rattle.solutions.specs.Solver.{combine, solve, lookup, weightOf, values, withinLimit, solverOf}
 use Rattle.rounds.specs.Rows.{Row, patterns, counts, rowIf}
-use Rattle.rounds.specs.Moments.{fair, allFair, thirds, extendedRows, judged, byMoments}
+use Rattle.rounds.specs.Moments.{splits, allSplit, extendedBy, extendedRows, judged, byMoments}
 use Rattle.rounds.specs.RoundEnd.{allPositive, sum, properRows, roundRows}
-use Rattle.runs.specs.Run.{Step, ask, done, refused, row, no-row, copied, kept, State, startOf, productAt, answerOf, fetchRule, fetchOf, copyRule, copyOf}
-use Rattle.runs.specs.Demand.{Call, answer, fetch, copy, Event, answered, fetched, copied-to, events}
+use Rattle.runs.specs.Run.{Step, ask, done, refused, row, noRow, copied, kept, State, startOf, roundProduct, answerOf, fetchRule}
+use Rattle.runs.specs.Run.{fetchOf, copyRule, copyOf}
+use Rattle.runs.specs.Demand.{Call, answer, fetch, copy, Event, answered, fetched, copiedTo, events}
 
 abbrev at : ℕ → ℕ → Row
 at q k = record { pattern = q; count = k }
@@ -52,20 +54,26 @@ pub record RunEdges : Type 0 where
       (ask 1 ∷ ask 2 ∷ ask 3 ∷ ask 4 ∷ ask 6 ∷ ask 7 ∷ ask 9 ∷ ask 10 ∷ ask 18 ∷ ask 19 ∷ done ∷ []) (at 13 1 ∷ at 22 1 ∷ at 26 1 ∷ []) 11
   -- rows before done; the second row and a third; copies into slices of 1 and of 3; an answer after done
   pub served : Gives 1
-      (fetch 0 ∷ copy (9 ∷ []) (9 ∷ []) ∷ answer (pos 2) ∷ answer (pos 0) ∷ answer (pos 2) ∷ fetch 1 ∷ fetch 2 ∷ copy (9 ∷ []) (8 ∷ 8 ∷ 8 ∷ [])
+      (fetch 0 ∷ copy (9 ∷ []) (9 ∷ []) ∷ answer (pos 2) ∷ answer (pos 0) ∷ answer (pos 2) ∷ fetch 1 ∷ fetch 2 ∷ copy (9 ∷ [])
+      (8 ∷ 8 ∷ 8 ∷ [])
       ∷ copy (9 ∷ 9 ∷ 9 ∷ []) (8 ∷ []) ∷ copy (9 ∷ []) (8 ∷ []) ∷ copy (9 ∷ 9 ∷ 9 ∷ []) (8 ∷ 8 ∷ 8 ∷ []) ∷ answer (pos 5) ∷ [])
-      (fetched 0 (no-row 7) ∷ copied-to (9 ∷ []) (9 ∷ []) (kept 7 (9 ∷ []) (9 ∷ [])) ∷ answered (pos 2) (ask 1) ∷ answered (pos 0) (ask 2)
-      ∷ answered (pos 2) done ∷ fetched 1 (row (at 2 1)) ∷ fetched 2 (no-row 14)
-      ∷ copied-to (9 ∷ []) (8 ∷ 8 ∷ 8 ∷ []) (kept 15 (9 ∷ []) (8 ∷ 8 ∷ 8 ∷ []))
-      ∷ copied-to (9 ∷ 9 ∷ 9 ∷ []) (8 ∷ []) (kept 15 (9 ∷ 9 ∷ 9 ∷ []) (8 ∷ [])) ∷ copied-to (9 ∷ []) (8 ∷ []) (kept 15 (9 ∷ []) (8 ∷ []))
-      ∷ copied-to (9 ∷ 9 ∷ 9 ∷ []) (8 ∷ 8 ∷ 8 ∷ []) (record { result = copied 2; patterns-left = 1 ∷ 2 ∷ 9 ∷ []; counts-left = 1 ∷ 1 ∷ 8 ∷ [] })
+      (fetched 0 (noRow 7) ∷ copiedTo (9 ∷ []) (9 ∷ []) (kept 7 (9 ∷ []) (9 ∷ [])) ∷ answered (pos 2) (ask 1) ∷ answered (pos 0) (ask 2)
+      ∷ answered (pos 2) done ∷ fetched 1 (row (at 2 1)) ∷ fetched 2 (noRow 14)
+      ∷ copiedTo (9 ∷ []) (8 ∷ 8 ∷ 8 ∷ []) (kept 15 (9 ∷ []) (8 ∷ 8 ∷ 8 ∷ []))
+      ∷ copiedTo (9 ∷ 9 ∷ 9 ∷ []) (8 ∷ []) (kept 15 (9 ∷ 9 ∷ 9 ∷ []) (8 ∷ [])) ∷ copiedTo (9 ∷ []) (8 ∷ []) (kept 15 (9 ∷ []) (8 ∷ []))
+      ∷ copiedTo (9 ∷ 9 ∷ 9 ∷ []) (8 ∷ 8 ∷ 8 ∷ [])
+      (record { result = copied 2; patternsLeft = 1 ∷ 2 ∷ 9 ∷ []; countsLeft = 1 ∷ 1 ∷ 8 ∷ [] })
       ∷ answered (pos 5) (refused 7) ∷ [])
   -- rows and an answer after closed
   pub after-closed : Gives 1 (answer (pos 65) ∷ answer (pos 2) ∷ fetch 0 ∷ copy (9 ∷ []) (8 ∷ []) ∷ [])
-      (answered (pos 65) (refused 8) ∷ answered (pos 2) (refused 7) ∷ fetched 0 (no-row 7) ∷ copied-to (9 ∷ []) (8 ∷ []) (kept 7 (9 ∷ []) (8 ∷ [])) ∷ [])
+      (answered (pos 65) (refused 8) ∷ answered (pos 2) (refused 7) ∷ fetched 0 (noRow 7) ∷ copiedTo (9 ∷ []) (8 ∷ [])
+      (kept 7 (9 ∷ []) (8 ∷ [])) ∷ [])
 
 pub run-edges : RunEdges
-unfolding answerOf productAt roundRows properRows isRising isBelow allPositive sum patterns counts byMoments judged allFair fair extendedRows thirds rowIf solverOf withinLimit sumAbs values solve combine bySign glue knownSum knownDifference known-1 known-2 block queries allEven half _⊕_ _⊖_ lookup weightOf fold tally adapted times shift lows keep upTo signsOf fetchOf copyOf fetchRule copyRule events
+unfolding answerOf roundProduct roundRows properRows isRising isBelow allPositive sum patterns counts byMoments judged allSplit splits
+    extendedRows extendedBy rowIf solverOf withinLimit sumAbs values solve combine bySign glue knownSum knownDifference known1 known2 block
+    queries allEven half _⊕_ _⊖_ lookup weightOf fold tally adapted times shift restrictions keep upTo signsOf fetchOf copyOf fetchRule
+    copyRule events
 run-edges =
     record {
       no-points = λ s. refl;

@@ -12,7 +12,7 @@ use lib.ListN.{length}
 use Rattle.refusals.specs.Limits.{mostPoints}
 use Rattle.signs.specs.Lists.{isRising, isBelow, Rising, Below}
 use Rattle.signs.proofs.Orders.{both-left, both-right, rising-from, below-from}
-use Rattle.rounds.specs.Rows.{Row, patterns, counts, points, Positive, IsRows}
+use Rattle.rounds.specs.Rows.{Row, patterns, counts, repeated, Positive, IsRows}
 use Rattle.rounds.specs.NextRows.{NextRows}
 use Rattle.rounds.specs.Moments.{byMoments}
 use Rattle.rounds.specs.RoundEnd.{allPositive, sum, properRows, roundRows}
@@ -23,11 +23,13 @@ use Rattle.rounds.proofs.RoundEnds.{sum-points, roundRows-right}
 positive-from : (R : List Row) → allPositive (counts R) ≡ true → Positive R
 unfolding Positive counts allPositive
 positive-from [] e = tt
-positive-from (r ∷ R) e =
-    (ltb-true 0 (r .count) (both-left (ltb 0 (r .count)) (allPositive (counts R)) e), positive-from R (both-right (ltb 0 (r .count)) (allPositive (counts R)) e))
+positive-from (r ∷ R) e = (
+  ltb-true 0 (r .count) (both-left (ltb 0 (r .count)) (allPositive (counts R)) e),
+  positive-from R (both-right (ltb 0 (r .count)) (allPositive (counts R)) e),
+)
 
 -- rows that pass the test are rows as a round leaves them
-proper-rows : (i : ℕ) (R : List Row) → properRows i R ≡ true → IsRows i R × (length (points R) ≤ mostPoints)
+proper-rows : (i : ℕ) (R : List Row) → properRows i R ≡ true → IsRows i R × (length (repeated R) ≤ mostPoints)
 unfolding properRows
 proper-rows i R e =
     let e₁ = both-right (isRising (patterns R)) _ e in
@@ -45,7 +47,8 @@ passed : (b : Bool) (x : Option (List Row)) (R : List Row) → cond b x none ≡
 passed true x R e = refl
 passed false x R e = let k : _≡_ {A = ℕ} 0 1 = cc in absurd (omega arith)
 
-answered : (i : ℕ) (R₀ : List Row) (ws : List ℤ) (R : List Row) → roundRows i R₀ ws ≡ some R → properRows i R₀ && eqb (length ws) (2 * length R₀) ≡ true
+answered : (i : ℕ) (R₀ : List Row) (ws : List ℤ) (R : List Row) → roundRows i R₀ ws ≡ some R → properRows i R₀
+    && eqb (length ws) (2 * length R₀) ≡ true
 unfolding roundRows
 answered i R₀ ws R e = passed (properRows i R₀ && eqb (length ws) (2 * length R₀)) (byMoments i R₀ ws) R e
 
@@ -68,7 +71,15 @@ unfolding Positive patterns Below
 some-stay i [] ws R I N h = absurd (omega arith)
 some-stay i (r ∷ R₀) ws [] I N h =
     let q = r .pattern in
-    absurd (omega (arith, N .sums q (I .below .0), I .positive .0, points-same r R₀, no-points q, no-points (q + 3 ^ i), no-points (q + 2 * 3 ^ i)))
+    absurd (omega (
+      arith,
+      N .sums q (I .below .0),
+      I .positive .0,
+      points-same r R₀,
+      no-points q,
+      no-points (q + 3 ^ i),
+      no-points (q + 2 * 3 ^ i),
+    ))
 some-stay i (r ∷ R₀) ws (r₁ ∷ R) I N h = omega arith
 
 pub ends-some : (i : ℕ) (R₀ : List Row) (ws : List ℤ) (R : List Row) → roundRows i R₀ ws ≡ some R → 0 < length R₀ → 0 < length R

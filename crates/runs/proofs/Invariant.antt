@@ -22,13 +22,15 @@ use Rattle.signs.proofs.Size.{length-shift}
 use Rattle.runs.specs.Demand.{heard, asks, Proper, SomeFits}
 use Rattle.rounds.specs.NextRows.{RightRows}
 use Rattle.rounds.specs.Rounds.{roundOf, Answered, Determined, AtEnd, InOrder}
-use Rattle.rounds.specs.Rows.{Row, patterns, points, rowIf, rowsOf, Fits}
-use Rattle.runs.specs.Run.{Step, Phase, running, finished, closed, State, startOf, productAt, close, ended, endRound, goOn, first, later, inRound, inPhase, answerOf}
+use Rattle.rounds.specs.Rows.{Row, patterns, repeated, rowIf, rowsOf, Fits}
+use Rattle.runs.specs.Run.{Step, Phase, running, finished, closed, State, startOf, roundProduct, close, ended, endRound, roundStep}
+use Rattle.runs.specs.Run.{firstAnswer, laterAnswer, inRound, inPhase, answerOf}
 use Rattle.rounds.proofs.Answers.{Facts, facts, more-rows, query-zero, round-low, round-once, round-length}
 use Rattle.rounds.proofs.RowLaws.{times-single}
 use Rattle.rounds.specs.Rows.{restrict}
 use Rattle.rounds.proofs.Questions.{rows-most}
-use Rattle.rounds.proofs.Rounds.{rows-oracle, determined-empty, next-counts, next-determined, oracle-next, fits-first, fits-last, query-small, end-nonempty, not-ended, fits-end}
+use Rattle.rounds.proofs.Rounds.{rows-oracle, determined-empty, next-counts, next-determined, oracle-next, fits-first, fits-last}
+use Rattle.rounds.proofs.Rounds.{query-small, end-nonempty, not-ended, fits-end}
 
 -- ---- the invariant
 
@@ -89,8 +91,8 @@ round-twice i L =
     )
 
 -- the k-th product from the adapted list is the k-th of the round
-pub product-at : (i : ℕ) (L : List ℕ) (k : ℕ) → k < length (roundOf i L) → productAt i (adapted i L) k ≡ getD (roundOf i L) k 0
-unfolding productAt roundOf
+pub product-at : (i : ℕ) (L : List ℕ) (k : ℕ) → k < length (roundOf i L) → roundProduct i (adapted i L) k ≡ getD (roundOf i L) k 0
+unfolding roundProduct roundOf
 product-at i L k h = go (decLt k (length A))
   where
     A : List ℕ
@@ -113,7 +115,8 @@ product-at i L k h = go (decLt k (length A))
 
 -- ---- products asked in a round that goes on
 
-pub asked-once : (i k : ℕ) (zs : List ℤ) (ps : List ℕ) (R : List Row) → Determined i zs ps R → (α : ℕ) → times α (ps ++ take k (roundOf i (patterns R))) ≤ 1
+pub asked-once : (i k : ℕ) (zs : List ℤ) (ps : List ℕ) (R : List Row) → Determined i zs ps R → (α : ℕ)
+    → times α (ps ++ take k (roundOf i (patterns R))) ≤ 1
 asked-once i k zs ps R c α = go (decLt 0 (times α ps)) (decLt 0 (times α Q))
   where
     Q : List ℕ
@@ -167,9 +170,11 @@ going-fits s r zs ps c g j i qs hj e = go (decLt c i)
   where
     go : Dec (c < i) → SomeFits s ps (take j zs)
     go (yes m) =
-        absurd (not-ended i c (take j zs) (drop j zs) (g .before) (r .answers) qs (g .asked) (r .rows) m e (g .determined) (take-append-drop j zs ∙ g .answers) (g .unfinished))
+        absurd (not-ended i c (take j zs) (drop j zs) (g .before) (r .answers) qs (g .asked) (r .rows) m e (g .determined)
+        (take-append-drop j zs ∙ g .answers) (g .unfinished))
     go (no m) =
-        fits-end s zs ps i c j (g .before) (r .answers) qs (g .asked) (r .rows) (omega (arith, g .in-range)) (omega arith) hj (g .determined) (g .answers) e _ (g .products)
+        fits-end s zs ps i c j (g .before) (r .answers) qs (g .asked) (r .rows) (omega (arith, g .in-range)) (omega arith) hj
+        (g .determined) (g .answers) e _ (g .products)
 
 -- ---- an answer taken
 
@@ -267,12 +272,13 @@ closed-first s z h =
       in-time = λ k i qs m e. absurd (omega (arith, end-nonempty i (take k (z ∷ [])) qs e, length-take k (z ∷ [])));
     }
 
-first-after : (N : ℕ → List Row → List ℤ → Option (List Row)) (s : ℕ) (z : ℤ) → 1 ≤ s → After s [] (0 ∷ []) z (first N (startOf s) z)
+first-after : (N : ℕ → List Row → List ℤ → Option (List Row)) (s : ℕ) (z : ℤ) → 1 ≤ s → After s [] (0 ∷ []) z (firstAnswer N (startOf s) z)
 first-after N s (negsuc n) h =
     close-after N s (startOf s) [] (0 ∷ []) (negsuc n) refl refl 0 (omega arith) (omega arith) 8 refl (inl refl)
     (closed-first s (negsuc n) (λ E k e. let x : _≡_ {A = ℕ} 0 1 = cc in omega arith))
 first-after N s (pos zero) h =
-    done-after N s (startOf s) [] (0 ∷ []) (pos 0) refl refl 0 (omega arith) (omega arith) 0 (rowIf 0 0) (unfold rowIf in determined-empty s)
+    done-after N s (startOf s) [] (0 ∷ []) (pos 0) refl refl 0 (omega arith) (omega arith) 0 (rowIf 0 0)
+    (unfold rowIf in determined-empty s)
 first-after N s (pos (suc n)) h =
     cond-after s [] (0 ∷ []) (pos (suc n)) _ _ (leb (suc n) mostPoints)
     (λ t. rw (eqb·suc-zero n)
@@ -295,7 +301,7 @@ module _ (N : ℕ → List Row → List ℤ → Option (List Row)) (right : Righ
   F : Facts i (g .before) (g .asked) (r .rows)
   F = facts i (g .before) (g .asked) (r .rows) (g .determined)
 
-  few : length (points (r .rows)) ≤ mostPoints
+  few : length (repeated (r .rows)) ≤ mostPoints
   few = rows-oracle i i (g .before) (g .asked) (r .rows) (omega arith) F .0 .held
 
   short : length zs ≤ 2 * mostPoints * suc i
@@ -341,15 +347,15 @@ module _ (N : ℕ → List Row → List ℤ → Option (List Row)) (right : Righ
       omega (arith, holds (t .0) (t .2), query-small s α (t .0), ap natAbs e)
 
   -- the next product of the record is that of the round
-  next-product : length ws < length Q → productAt i (r .products) (length ws) ≡ getD Q (length ws) 0
-  next-product h = ap (λ (A : List ℕ). productAt i A (length ws)) (g .adapted-list) ∙ product-at i (patterns (r .rows)) (length ws) h
+  next-product : length ws < length Q → roundProduct i (r .products) (length ws) ≡ getD Q (length ws) 0
+  next-product h = ap (λ (A : List ℕ). roundProduct i A (length ws)) (g .adapted-list) ∙ product-at i (patterns (r .rows)) (length ws) h
 
   -- the record's list has half the round's products
   twice : 2 * length (r .products) ≡ length Q
   twice = ap (λ (A : List ℕ). 2 * length A) (g .adapted-list) ∙ sym (round-twice i (patterns (r .rows)))
 
   -- the round goes on
-  on-after : length ws < length Q → After s zs ps z (goOn N r i ws true)
+  on-after : length ws < length Q → After s zs ps z (roundStep N r i ws true)
   unfolding heard asks Proper
   on-after h =
       record {
@@ -384,7 +390,9 @@ module _ (N : ℕ → List Row → List ℤ → Option (List Row)) (right : Righ
 
   module _ (full : length ws ≡ length Q) where
     whole : ps ≡ g .asked ++ Q
-    whole = g .products ∙ ap (λ (l : List ℕ). g .asked ++ l) (take-all (suc (length (r .answers))) Q (omega (arith, full, one-more (r .answers) z)))
+    whole =
+        g .products ∙ ap (λ (l : List ℕ). g .asked ++ l)
+        (take-all (suc (length (r .answers))) Q (omega (arith, full, one-more (r .answers) z)))
 
     -- 10: an oracle that fits has counts
     ten : N i (r .rows) ws ≡ none → Closed s (zs ++ (z ∷ [])) ps
@@ -396,12 +404,22 @@ module _ (N : ℕ → List Row → List ℤ → Option (List Row)) (right : Righ
     next : (R : List Row) → N i (r .rows) ws ≡ some R → Determined (suc i) (zs ++ (z ∷ [])) ps R
     next R e =
         rw (whole, all-answers)
-        (next-determined i (g .before) ws (g .asked) (r .rows) F full R (g .determined) (right .found i (r .rows) ws R (F .rows) few full e))
+        (next-determined i (g .before) ws (g .asked) (r .rows) F full R (g .determined)
+        (right .found i (r .rows) ws R (F .rows) few full e))
 
     still-rows : (R : List Row) → N i (r .rows) ws ≡ some R → 0 < length R
     still-rows R e =
         let a : Answered i (Determined i) (g .before ++ ws) (g .asked ++ Q) =
-        record { before = g .before; now = ws; asked = g .asked; rows = r .rows; after = g .determined; answers = refl; products = refl; all = full } in
+        record {
+          before = g .before;
+          now = ws;
+          asked = g .asked;
+          rows = r .rows;
+          after = g .determined;
+          answers = refl;
+          products = refl;
+          all = full;
+        } in
         let c = next-counts i (g .before) ws (g .asked) (r .rows) F full R (right .found i (r .rows) ws R (F .rows) few full e) in
         omega (arith, more-rows i (g .before ++ ws) (g .asked ++ Q) R a c F, round-length i (r .rows) (F .rows), g .unfinished)
 
@@ -412,7 +430,8 @@ module _ (N : ℕ → List Row → List ℤ → Option (List Row)) (right : Righ
         go : (b : Bool) → eqb (suc i) (r .polynomials) ≡ b → After s zs ps z (ended N r (suc i) (r .n) R b)
         go true t =
             let same : suc i ≡ s = eqb-true (suc i) (r .polynomials) t ∙ polys in
-            done-after N s r zs ps z polys count (suc i) (g .in-range) short (r .n) R (subst (λ (x : ℕ). Determined x (zs ++ (z ∷ [])) ps R) same (next R e))
+            done-after N s r zs ps z polys count (suc i) (g .in-range) short (r .n) R
+            (subst (λ (x : ℕ). Determined x (zs ++ (z ∷ [])) ps R) same (next R e))
         go false t =
             begin-after N s r zs ps z polys count (suc i) (g .in-range) short (r .n) R (g .later-answers ++ ws) (next R e)
             (omega (arith, g .in-range, polys, differ)) (still-rows R e) starts
@@ -420,13 +439,14 @@ module _ (N : ℕ → List Row → List ℤ → Option (List Row)) (right : Righ
             differ : suc i ≢ r .polynomials
             differ = eqb-false (suc i) (r .polynomials) t
 
-  later-after : After s zs ps z (later N r i z)
+  later-after : After s zs ps z (laterAnswer N r i z)
   later-after =
       cond-after s zs ps z _ _ (leb (natAbs z) (r .n))
       (λ t. go (ltb (length ws) (2 * length (r .products))) refl)
-      (λ t. close-after N s r zs ps z polys count (suc i) (g .in-range) short 9 in-round (inr (inl refl)) (nine (leb-false (natAbs z) (r .n) t)))
+      (λ t. close-after N s r zs ps z polys count (suc i) (g .in-range) short 9 in-round (inr (inl refl))
+      (nine (leb-false (natAbs z) (r .n) t)))
     where
-      go : (b : Bool) → ltb (length ws) (2 * length (r .products)) ≡ b → After s zs ps z (goOn N r i ws b)
+      go : (b : Bool) → ltb (length ws) (2 * length (r .products)) ≡ b → After s zs ps z (roundStep N r i ws b)
       go true t = on-after (omega (arith, ltb-true (length ws) (2 * length (r .products)) t, twice))
       go false t =
           end-after (omega (arith, ltb-false (length ws) (2 * length (r .products)) t, twice, g .unfinished, one-more (r .answers) z))

@@ -10,7 +10,7 @@ use Rattle.rounds.specs.Rows.{patterns}
 use Rattle.rounds.specs.RoundEnd.{roundRows}
 use Rattle.signs.proofs.Size.{as-many}
 use Rattle.runs.specs.Run.{Phase, running, finished, closed, State, startOf}
-use Rattle.runs.specs.Demand.{Call, play}
+use Rattle.runs.specs.Demand.{Call, stateAfter}
 use Rattle.runs.specs.Reached.{InRound, Reached}
 use Rattle.rounds.proofs.Answers.{Facts, facts, round-length}
 use Rattle.rounds.proofs.RoundEnds.{roundRows-right}
@@ -54,6 +54,7 @@ inv-reached s r zs ps I =
     at : (f : Phase) (k : ℕ) → r .phase ≡ f → r .round ≡ k → At s r zs ps f k
     at f k e m = subst (At s r zs ps f) m (subst (λ (x : Phase). At s r zs ps x (r .round)) e (I .at))
 
-pub reached : (s : ℕ) → 1 ≤ s → s ≤ mostPolynomials → (calls : List Call) → Reached s (play roundRows (startOf s) calls)
+pub reached : (s : ℕ) → 1 ≤ s → s ≤ mostPolynomials → (calls : List Call) → Reached s (stateAfter roundRows (startOf s) calls)
 reached s h m calls =
-    inv-reached s (play roundRows (startOf s) calls) _ _ (story roundRows roundRows-right s h calls (startOf s) [] (0 ∷ []) (start-inv s) .inv)
+    inv-reached s (stateAfter roundRows (startOf s) calls) _ _
+    (story roundRows roundRows-right s h calls (startOf s) [] (0 ∷ []) (start-inv s) .inv)

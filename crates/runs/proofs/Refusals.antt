@@ -12,7 +12,9 @@ use lib.IntN.{ℤ, pos, negsuc, natAbs}
 use lib.ListN.{length, getD, drop, length-append}
 use Rattle.refusals.specs.Limits.{mostPoints}
 use Rattle.rounds.specs.Rows.{Row, rowIf}
-use Rattle.runs.specs.Run.{Step, ask, done, refused, Fetch, row, no-row, Copied, copied, not-copied, Copy, kept, Phase, running, finished, closed, State, close, ended, endRound, goOn, first, later, inRound, inPhase, answerOf, fetchRule, fetchOf, copyRule, copyOf}
+use Rattle.runs.specs.Run.{Step, ask, done, refused, Fetch, row, noRow, Copied, copied, notCopied, Copy, kept, Phase, running}
+use Rattle.runs.specs.Run.{finished, closed, State, close, ended, endRound, roundStep, firstAnswer, laterAnswer, inRound, inPhase}
+use Rattle.runs.specs.Run.{answerOf, fetchRule, fetchOf, copyRule, copyOf}
 use Rattle.runs.specs.Refusals.{OutOfFirst, Shut, Refusals}
 use Rattle.runs.proofs.Phases.{running-not-finished, closed-not-finished, finished-not-running, closed-not-running}
 
@@ -27,14 +29,16 @@ module _ (N : ℕ → List Row → List ℤ → Option (List Row)) where
     why-7 : k ≡ 7 → r .phase ≢ running → Why r z k r′
     why-8 : k ≡ 8 → r .phase ≡ running → r .round ≡ 0 → OutOfFirst z → Shut r r′ → Why r z k r′
     why-9 : k ≡ 9 → r .phase ≡ running → 0 < r .round → r .n < natAbs z → Shut r r′ → Why r z k r′
-    why-10 : k ≡ 10 → r .phase ≡ running → (i : ℕ) → r .round ≡ suc i → natAbs z ≤ r .n → 2 * length (r .products) ≤ suc (length (r .answers))
+    why-10 : k ≡ 10 → r .phase ≡ running → (i : ℕ) → r .round ≡ suc i → natAbs z ≤ r .n
+        → 2 * length (r .products) ≤ suc (length (r .answers))
         → N i (r .rows) (r .answers ++ (z ∷ [])) ≡ none → Shut r r′ → Why r z k r′
 
   ended-goes : (r : State) (i n : ℕ) (R : List Row) (b : Bool) (k : ℕ) → ended N r i n R b .1 ≢ refused k
   ended-goes r i n R true k e = let x : _≡_ {A = ℕ} 0 1 = cc in omega arith
   ended-goes r i n R false k e = let x : _≡_ {A = ℕ} 0 1 = cc in omega arith
 
-  first-why : (r : State) (z : ℤ) (k : ℕ) → r .phase ≡ running → r .round ≡ 0 → first N r z .1 ≡ refused k → Why r z k (first N r z .0)
+  first-why : (r : State) (z : ℤ) (k : ℕ) → r .phase ≡ running → r .round ≡ 0 → firstAnswer N r z .1 ≡ refused k
+      → Why r z k (firstAnswer N r z .0)
   first-why r (negsuc n) k p q e =
       why-8 (same-number 8 k e) p q (λ m h c. let x : _≡_ {A = ℕ} 0 1 = cc in omega arith) (refl, refl, refl)
   first-why r (pos n) k p q e = go (leb n mostPoints) refl e
@@ -45,7 +49,8 @@ module _ (N : ℕ → List Row → List ℤ → Option (List Row)) where
       go false t e =
           why-8 (same-number 8 k e) p q (λ m h c. let x : n ≡ m = cc in omega (arith, leb-false n mostPoints t)) (refl, refl, refl)
 
-  later-why : (r : State) (z : ℤ) (k i : ℕ) → r .phase ≡ running → r .round ≡ suc i → later N r i z .1 ≡ refused k → Why r z k (later N r i z .0)
+  later-why : (r : State) (z : ℤ) (k i : ℕ) → r .phase ≡ running → r .round ≡ suc i → laterAnswer N r i z .1 ≡ refused k
+      → Why r z k (laterAnswer N r i z .0)
   later-why r z k i p q e = go (leb (natAbs z) (r .n)) refl (ltb (length ws) (2 * length (r .products))) refl e
     where
       ws : List ℤ
@@ -58,7 +63,7 @@ module _ (N : ℕ → List Row → List ℤ → Option (List Row)) where
       end h l (some R) m e = absurd (ended-goes r (suc i) (r .n) R (eqb (suc i) (r .polynomials)) k e)
 
       go : (b : Bool) → leb (natAbs z) (r .n) ≡ b → (c : Bool) → ltb (length ws) (2 * length (r .products)) ≡ c
-          → cond b (goOn N r i ws c) (close N r 9) .1 ≡ refused k → Why r z k (cond b (goOn N r i ws c) (close N r 9) .0)
+          → cond b (roundStep N r i ws c) (close N r 9) .1 ≡ refused k → Why r z k (cond b (roundStep N r i ws c) (close N r 9) .0)
       go true t true u e = let x : _≡_ {A = ℕ} 0 1 = cc in absurd (omega arith)
       go true t false u e =
           end (leb-true (natAbs z) (r .n) t) (omega (arith, ltb-false (length ws) (2 * length (r .products)) u)) (N i (r .rows) ws) refl e
@@ -93,7 +98,7 @@ module _ (N : ℕ → List Row → List ℤ → Option (List Row)) where
   unfolding answerOf
   in-round r z m p q = ap (λ (f : Phase). inPhase N r f z) p ∙ ap (λ (k : ℕ). inRound N r k z) q
 
-  first-8 : (r : State) (z : ℤ) → OutOfFirst z → first N r z .1 ≡ refused 8
+  first-8 : (r : State) (z : ℤ) → OutOfFirst z → firstAnswer N r z .1 ≡ refused 8
   first-8 r (negsuc n) h = refl
   first-8 r (pos n) h = go (leb n mostPoints) refl
     where
@@ -107,29 +112,36 @@ module _ (N : ℕ → List Row → List ℤ → Option (List Row)) where
       ap (λ (o : State × Step). o .1) (in-round r z (suc i) p q) ∙ (rw (lt-leb (natAbs z) (r .n) l) refl)
 
   answer-10-back : (r : State) (z : ℤ) (i : ℕ) → r .phase ≡ running → r .round ≡ suc i → natAbs z ≤ r .n
-      → 2 * length (r .products) ≤ suc (length (r .answers)) → N i (r .rows) (r .answers ++ (z ∷ [])) ≡ none → answerOf N r z .1 ≡ refused 10
+      → 2 * length (r .products) ≤ suc (length (r .answers)) → N i (r .rows) (r .answers ++ (z ∷ [])) ≡ none → answerOf N r z .1
+      ≡ refused 10
   answer-10-back r z i p q h l e =
       ap (λ (o : State × Step). o .1) (in-round r z (suc i) p q)
-      ∙ (rw (le-leb (natAbs z) (r .n) h, le-ltb (length (r .answers ++ (z ∷ []))) (2 * length (r .products)) (omega (arith, l, length-append (r .answers) (z ∷ []))), e) refl)
+      ∙ (rw (
+        le-leb (natAbs z) (r .n) h,
+        le-ltb (length (r .answers ++ (z ∷ []))) (2 * length (r .products)) (omega (arith, l, length-append (r .answers) (z ∷ []))),
+        e,
+      )
+      refl)
 
 -- ---- rows
 
-fetch-rule-7 : (f : Phase) (R : List Row) (p : ℕ) → (fetchRule f R p ≡ no-row 7) ↔ (f ≢ finished)
+fetch-rule-7 : (f : Phase) (R : List Row) (p : ℕ) → (fetchRule f R p ≡ noRow 7) ↔ (f ≢ finished)
 unfolding fetchRule
 fetch-rule-7 running R p = (λ e. running-not-finished, λ h. refl)
 fetch-rule-7 finished R p = (λ e. absurd (go (ltb p (length R)) e), λ h. absurd (h refl))
   where
-    go : (b : Bool) → cond b (row (getD R p (record { pattern = 0; count = 0 }))) (no-row 14) ≢ no-row 7
+    go : (b : Bool) → cond b (row (getD R p (record { pattern = 0; count = 0 }))) (noRow 14) ≢ noRow 7
     go true e = let x : _≡_ {A = ℕ} 0 1 = cc in omega arith
     go false e = let x : _≡_ {A = ℕ} 14 7 = cc in omega arith
 fetch-rule-7 closed R p = (λ e. closed-not-finished, λ h. refl)
 
-fetch-rule-14 : (f : Phase) (R : List Row) (p : ℕ) → (fetchRule f R p ≡ no-row 14) ↔ ((f ≡ finished) × (length R ≤ p))
+fetch-rule-14 : (f : Phase) (R : List Row) (p : ℕ) → (fetchRule f R p ≡ noRow 14) ↔ ((f ≡ finished) × (length R ≤ p))
 unfolding fetchRule
 fetch-rule-14 running R p = (λ e. let x : _≡_ {A = ℕ} 7 14 = cc in absurd (omega arith), λ h. absurd (running-not-finished (h .0)))
 fetch-rule-14 finished R p = (λ e. (refl, go (ltb p (length R)) refl e), λ h. rw (le-ltb p (length R) (h .1)) refl)
   where
-    go : (b : Bool) → ltb p (length R) ≡ b → cond b (row (getD R p (record { pattern = 0; count = 0 }))) (no-row 14) ≡ no-row 14 → length R ≤ p
+    go : (b : Bool) → ltb p (length R) ≡ b → cond b (row (getD R p (record { pattern = 0; count = 0 }))) (noRow 14) ≡ noRow 14
+        → length R ≤ p
     go true t e = let x : _≡_ {A = ℕ} 0 1 = cc in absurd (omega arith)
     go false t e = omega (arith, ltb-false p (length R) t)
 fetch-rule-14 closed R p = (λ e. let x : _≡_ {A = ℕ} 7 14 = cc in absurd (omega arith), λ h. absurd (closed-not-finished (h .0)))
@@ -141,51 +153,53 @@ outcome R a b x y =
     (cond y
     (record {
       result = copied (length R);
-      patterns-left = map (λ r. r .pattern) R ++ drop (length R) a;
-      counts-left = map (λ r. r .count) R ++ drop (length R) b;
+      patternsLeft = map (λ r. r .pattern) R ++ drop (length R) a;
+      countsLeft = map (λ r. r .count) R ++ drop (length R) b;
     })
     (kept 15 a b))
     (kept 15 a b)
 
-copy-rule-7 : (f : Phase) (R : List Row) (a b : List ℕ) → (copyRule f R a b .result ≡ not-copied 7) ↔ (f ≢ finished)
+copy-rule-7 : (f : Phase) (R : List Row) (a b : List ℕ) → (copyRule f R a b .result ≡ notCopied 7) ↔ (f ≢ finished)
 unfolding copyRule
 copy-rule-7 running R a b = (λ e. running-not-finished, λ h. refl)
 copy-rule-7 finished R a b = (λ e. absurd (go (leb (length R) (length a)) (leb (length R) (length b)) e), λ h. absurd (h refl))
   where
-    go : (x y : Bool) → outcome R a b x y .result ≢ not-copied 7
+    go : (x y : Bool) → outcome R a b x y .result ≢ notCopied 7
     go true true e = let x : _≡_ {A = ℕ} 0 1 = cc in omega arith
     go true false e = let x : _≡_ {A = ℕ} 15 7 = cc in omega arith
     go false y e = let x : _≡_ {A = ℕ} 15 7 = cc in omega arith
 copy-rule-7 closed R a b = (λ e. closed-not-finished, λ h. refl)
 
 copy-rule-15 : (f : Phase) (R : List Row) (a b : List ℕ)
-    → (copyRule f R a b .result ≡ not-copied 15) ↔ ((f ≡ finished) × ((length a < length R) ⊎ (length b < length R)))
+    → (copyRule f R a b .result ≡ notCopied 15) ↔ ((f ≡ finished) × ((length a < length R) ⊎ (length b < length R)))
 unfolding copyRule
 copy-rule-15 running R a b = (λ e. let x : _≡_ {A = ℕ} 7 15 = cc in absurd (omega arith), λ h. absurd (running-not-finished (h .0)))
 copy-rule-15 finished R a b = (λ e. (refl, go (leb (length R) (length a)) refl (leb (length R) (length b)) refl e), λ h. back (h .1))
   where
-    go : (x : Bool) → leb (length R) (length a) ≡ x → (y : Bool) → leb (length R) (length b) ≡ y → outcome R a b x y .result ≡ not-copied 15
+    go : (x : Bool) → leb (length R) (length a) ≡ x → (y : Bool) → leb (length R) (length b) ≡ y → outcome R a b x y .result ≡ notCopied 15
         → (length a < length R) ⊎ (length b < length R)
     go true t true u e = let x : _≡_ {A = ℕ} 0 1 = cc in absurd (omega arith)
     go true t false u e = inr (leb-false (length R) (length b) u)
     go false t y u e = inl (leb-false (length R) (length a) t)
 
-    either : (x : Bool) → outcome R a b x false .result ≡ not-copied 15
+    either : (x : Bool) → outcome R a b x false .result ≡ notCopied 15
     either true = refl
     either false = refl
 
-    back : (length a < length R) ⊎ (length b < length R) → outcome R a b (leb (length R) (length a)) (leb (length R) (length b)) .result ≡ not-copied 15
+    back : (length a < length R) ⊎ (length b < length R) → outcome R a b (leb (length R) (length a)) (leb (length R) (length b)) .result
+        ≡ notCopied 15
     back (inl h) = rw (lt-leb (length R) (length a) h) refl
     back (inr h) = rw (lt-leb (length R) (length b) h) (either (leb (length R) (length a)))
 copy-rule-15 closed R a b = (λ e. let x : _≡_ {A = ℕ} 7 15 = cc in absurd (omega arith), λ h. absurd (closed-not-finished (h .0)))
 
-copy-rule-kept : (f : Phase) (R : List Row) (a b : List ℕ) (k : ℕ) → copyRule f R a b .result ≡ not-copied k
-    → (copyRule f R a b .patterns-left ≡ a) × (copyRule f R a b .counts-left ≡ b)
+copy-rule-kept : (f : Phase) (R : List Row) (a b : List ℕ) (k : ℕ) → copyRule f R a b .result ≡ notCopied k
+    → (copyRule f R a b .patternsLeft ≡ a) × (copyRule f R a b .countsLeft ≡ b)
 unfolding copyRule
 copy-rule-kept running R a b k e = (refl, refl)
 copy-rule-kept finished R a b k e = go (leb (length R) (length a)) (leb (length R) (length b)) e
   where
-    go : (x y : Bool) → outcome R a b x y .result ≡ not-copied k → (outcome R a b x y .patterns-left ≡ a) × (outcome R a b x y .counts-left ≡ b)
+    go : (x y : Bool) → outcome R a b x y .result ≡ notCopied k → (outcome R a b x y .patternsLeft ≡ a)
+        × (outcome R a b x y .countsLeft ≡ b)
     go true true e = let x : _≡_ {A = ℕ} 0 1 = cc in absurd (omega arith)
     go true false e = (refl, refl)
     go false y e = (refl, refl)

@@ -13,42 +13,43 @@ use lib.ListN.{length}
 use Rattle.refusals.specs.Numbers.{late, badFirst, badLater, noCounts}
 use Rattle.integers.proofs.Parts.{int}
 use Rattle.rounds.specs.Rows.{Row, rowIf}
-use Rattle.runs.specs.Run.{State, Phase, running, finished, closed, Step, refused, close, ended, endRound, goOn, first, later, inRound, inPhase, answerOf}
+use Rattle.runs.specs.Run.{State, Phase, running, finished, closed, Step, refused, close, ended, endRound, roundStep, firstAnswer}
+use Rattle.runs.specs.Run.{laterAnswer, inRound, inPhase, answerOf}
 
 module _ (N : ℕ → List Row → List ℤ → Option (List Row)) (r : State) where
-  pub first-below : (z : ℤ) → z <ℤ pos 0 → first N r z ≡ close N r badFirst
+  pub first-below : (z : ℤ) → z <ℤ pos 0 → firstAnswer N r z ≡ close N r badFirst
   first-below (pos n) h = absurd (omega (int, h))
   first-below (negsuc n) h = refl
 
-  pub first-above : (z : ℤ) → pos 0 ≤ℤ z → 64 < natAbs z → first N r z ≡ close N r badFirst
+  pub first-above : (z : ℤ) → pos 0 ≤ℤ z → 64 < natAbs z → firstAnswer N r z ≡ close N r badFirst
   first-above (pos n) g h = rw (lt-leb n 64 h) refl
   first-above (negsuc n) g h = absurd (omega (int, g))
 
-  pub first-some : (z : ℤ) → pos 0 ≤ℤ z → natAbs z ≤ 64 → first N r z ≡ ended N r 0 (natAbs z) (rowIf 0 (natAbs z)) (eqb (natAbs z) 0)
+  pub first-some : (z : ℤ) → pos 0 ≤ℤ z → natAbs z ≤ 64 → firstAnswer N r z ≡ ended N r 0 (natAbs z) (rowIf 0 (natAbs z)) (eqb (natAbs z) 0)
   first-some (pos n) g h = rw (le-leb n 64 h) refl
   first-some (negsuc n) g h = absurd (omega (int, g))
 
-  pub later-out : (i : ℕ) (z : ℤ) → r .n < natAbs z → later N r i z ≡ close N r badLater
+  pub later-out : (i : ℕ) (z : ℤ) → r .n < natAbs z → laterAnswer N r i z ≡ close N r badLater
   later-out i z h = rw (lt-leb (natAbs z) (r .n) h) refl
 
   pub later-on : (i : ℕ) (z : ℤ) → natAbs z ≤ r .n → length (r .answers ++ (z ∷ [])) < 2 * length (r .products)
-      → later N r i z ≡ goOn N r i (r .answers ++ (z ∷ [])) true
+      → laterAnswer N r i z ≡ roundStep N r i (r .answers ++ (z ∷ [])) true
   later-on i z h k = rw (le-leb (natAbs z) (r .n) h, lt-ltb (length (r .answers ++ (z ∷ []))) (2 * length (r .products)) k) refl
 
   pub later-end : (i : ℕ) (z : ℤ) → natAbs z ≤ r .n → 2 * length (r .products) ≤ length (r .answers ++ (z ∷ []))
-      → later N r i z ≡ goOn N r i (r .answers ++ (z ∷ [])) false
+      → laterAnswer N r i z ≡ roundStep N r i (r .answers ++ (z ∷ [])) false
   later-end i z h k = rw (le-leb (natAbs z) (r .n) h, le-ltb (length (r .answers ++ (z ∷ []))) (2 * length (r .products)) k) refl
 
   -- round i's answer, i at least 1
-  in-round : (i : ℕ) (z : ℤ) → 0 < i → inRound N r i z ≡ later N r (i - 1) z
+  in-round : (i : ℕ) (z : ℤ) → 0 < i → inRound N r i z ≡ laterAnswer N r (i - 1) z
   in-round zero z h = absurd (omega arith)
-  in-round (suc i) z h = let e : i ≡ suc i - 1 = omega arith in ap (λ (j : ℕ). later N r j z) e
+  in-round (suc i) z h = let e : i ≡ suc i - 1 = omega arith in ap (λ (j : ℕ). laterAnswer N r j z) e
 
-  pub answer-first : (z : ℤ) → r .phase ≡ running → r .round ≡ 0 → answerOf N r z ≡ first N r z
+  pub answer-first : (z : ℤ) → r .phase ≡ running → r .round ≡ 0 → answerOf N r z ≡ firstAnswer N r z
   unfolding answerOf
   answer-first z f e = ap (λ (p : Phase). inPhase N r p z) f ∙ ap (λ (i : ℕ). inRound N r i z) e
 
-  pub answer-later : (z : ℤ) → r .phase ≡ running → 0 < r .round → answerOf N r z ≡ later N r (r .round - 1) z
+  pub answer-later : (z : ℤ) → r .phase ≡ running → 0 < r .round → answerOf N r z ≡ laterAnswer N r (r .round - 1) z
   unfolding answerOf
   answer-later z f h = ap (λ (p : Phase). inPhase N r p z) f ∙ in-round (r .round) z h
 
@@ -72,7 +73,7 @@ module _ (N : ℕ → List Row → List ℤ → Option (List Row)) (r : State) w
   not-late-ended i n R true e = let x : _≡_ {A = ℕ} 0 1 = cc in omega arith
   not-late-ended i n R false e = let x : _≡_ {A = ℕ} 0 1 = cc in omega arith
 
-  not-late-first : (z : ℤ) → NotLate (first N r z)
+  not-late-first : (z : ℤ) → NotLate (firstAnswer N r z)
   not-late-first (pos n) = go (leb n 64)
     where
       go : (b : Bool) → NotLate (cond b (ended N r 0 n (rowIf 0 n) (eqb n 0)) (close N r badFirst))
@@ -84,14 +85,16 @@ module _ (N : ℕ → List Row → List ℤ → Option (List Row)) (r : State) w
   not-late-end i none = not-late-close noCounts (λ e. omega arith)
   not-late-end i (some R) = not-late-ended (suc i) (r .n) R (eqb (suc i) (r .polynomials))
 
-  not-late-on : (i : ℕ) (ws : List ℤ) (b : Bool) → NotLate (goOn N r i ws b)
+  not-late-on : (i : ℕ) (ws : List ℤ) (b : Bool) → NotLate (roundStep N r i ws b)
   not-late-on i ws true e = let x : _≡_ {A = ℕ} 0 1 = cc in omega arith
   not-late-on i ws false e = not-late-end i (N i (r .rows) ws) e
 
-  not-late-later : (i : ℕ) (z : ℤ) → NotLate (later N r i z)
+  not-late-later : (i : ℕ) (z : ℤ) → NotLate (laterAnswer N r i z)
   not-late-later i z = go (leb (natAbs z) (r .n))
     where
-      go : (b : Bool) → NotLate (cond b (goOn N r i (r .answers ++ (z ∷ [])) (ltb (length (r .answers ++ (z ∷ []))) (2 * length (r .products)))) (close N r badLater))
+      go : (b : Bool) → NotLate
+          (cond b (roundStep N r i (r .answers ++ (z ∷ [])) (ltb (length (r .answers ++ (z ∷ []))) (2 * length (r .products))))
+          (close N r badLater))
       go true = not-late-on i (r .answers ++ (z ∷ [])) (ltb (length (r .answers ++ (z ∷ []))) (2 * length (r .products)))
       go false = not-late-close badLater (λ e. omega arith)
 

@@ -10,10 +10,12 @@ use borrow.Author.Tests.{leb-true, lt-ltb, le-ltb, le-leb}
 use lib.IntN.{ℤ}
 use lib.Dec.{leb}
 use lib.ListN.{length, getD, drop}
-use Rattle.runs.specs.Demand.{Call, answer, fetch, copy, Event, answered, fetched, copied-to, play, events, heard, phaseOf, takes, taken, asks, given, Proper, Orderly, FetchedFrom, Written, Refused, CopiedFrom, Served, NoRows}
+use Rattle.runs.specs.Demand.{Call, answer, fetch, copy, Event, answered, fetched, copiedTo, stateAfter, events, heard, phaseOf}
+use Rattle.runs.specs.Demand.{takes, taken, asks, given, Proper, Orderly, FetchedFrom, Written, Refused, CopiedFrom, Served, NoRows}
 use Rattle.rounds.specs.NextRows.{RightRows}
 use Rattle.rounds.specs.Rows.{Row, IsAt}
-use Rattle.runs.specs.Run.{Step, refused, Phase, running, finished, closed, fetchRule, copied, kept, copyRule, State, inPhase, answerOf, fetchOf, copyOf}
+use Rattle.runs.specs.Run.{Step, refused, Phase, running, finished, closed, fetchRule, copied, kept, copyRule, State, inPhase}
+use Rattle.runs.specs.Run.{answerOf, fetchOf, copyOf}
 use Rattle.rounds.proofs.Realized.{at-head, at-tail}
 use Rattle.runs.proofs.Invariant.{Inv, After, answer-running}
 
@@ -33,7 +35,8 @@ no-calls s r zs ps inv =
 -- ---- one event more
 
 after-taken : (s : ℕ) (R R′ : List Row) (zs : List ℤ) (ps : List ℕ) (t : List Event) (end : State) (z : ℤ) (x : Step) (f : Phase)
-    → heard running x ≡ f → Proper running x → Story s f R′ (zs ++ (z ∷ [])) (ps ++ asks x) t end → Story s running R zs ps (answered z x ∷ t) end
+    → heard running x ≡ f → Proper running x → Story s f R′ (zs ++ (z ∷ [])) (ps ++ asks x) t end
+    → Story s running R zs ps (answered z x ∷ t) end
 unfolding taken given phaseOf Orderly Served takes
 after-taken s R R′ zs ps t end z x f e p S =
     record {
@@ -95,7 +98,8 @@ written f K a h = record { as-long = long K a h; rows = rows-at; past = past-at 
         ∙ ap (λ (k : ℕ). getD (map f (i .before ++ (r ∷ i .after)) ++ drop (length K) a) k 0) (sym (i .position))
         ∙ front (i .before) (i .after) r (drop (length K) a)
 
-    past-at : (K : List Row) (a : List ℕ) → length K ≤ length a → (p : ℕ) → length K ≤ p → getD (map f K ++ drop (length K) a) p 0 ≡ getD a p 0
+    past-at : (K : List Row) (a : List ℕ) → length K ≤ length a → (p : ℕ) → length K ≤ p → getD (map f K ++ drop (length K) a) p 0
+        ≡ getD a p 0
     past-at [] a h p k = refl
     past-at (r ∷ K) [] h p k = absurd (omega arith)
     past-at (r ∷ K) (x ∷ a) h zero k = absurd (omega arith)
@@ -105,27 +109,38 @@ copy-right : (K : List Row) (a b : List ℕ) → CopiedFrom K a b (copyRule fini
 unfolding copyRule
 copy-right K a b =
     record {
-      fits = λ h k. rw (le-leb (length K) (length a) h, le-leb (length K) (length b) k) (refl, written (λ r. r .pattern) K a h, written (λ r. r .count) K b k);
+      fits =
+          λ h k. rw (le-leb (length K) (length a) h, le-leb (length K) (length b) k)
+          (refl, written (λ r. r .pattern) K a h, written (λ r. r .count) K b k);
       short = λ h. go h (leb (length K) (length a)) refl (leb (length K) (length b)) refl;
     }
   where
-    go : (length a < length K) ⊎ (length b < length K) → (x : Bool) → leb (length K) (length a) ≡ x → (y : Bool) → leb (length K) (length b) ≡ y
-        → Refused 15 a b (cond x (cond y (record { result = copied (length K); patterns-left = map (λ r. r .pattern) K ++ drop (length K) a; counts-left = map (λ r. r .count) K ++ drop (length K) b }) (kept 15 a b)) (kept 15 a b))
+    go : (length a < length K) ⊎ (length b < length K) → (x : Bool) → leb (length K) (length a) ≡ x → (y : Bool) → leb (length K) (length b)
+        ≡ y
+        → Refused 15 a b (cond x
+        (cond y (record {
+          result = copied (length K);
+          patternsLeft = map (λ r. r .pattern) K ++ drop (length K) a;
+          countsLeft = map (λ r. r .count) K ++ drop (length K) b;
+        }) (kept 15 a b)) (kept 15 a b))
     go h false e y f = (refl, refl, refl)
     go h true e false f = (refl, refl, refl)
     go (inl h) true e true f = absurd (omega (arith, leb-true (length K) (length a) e))
     go (inr h) true e true f = absurd (omega (arith, leb-true (length K) (length b) f))
 
-fetch-served : (f : Phase) (R K : List Row) (p : ℕ) (t : List Event) → (f ≡ finished → R ≡ K) → Served f K t → Served f K (fetched p (fetchRule f R p) ∷ t)
+fetch-served : (f : Phase) (R K : List Row) (p : ℕ) (t : List Event) → (f ≡ finished → R ≡ K) → Served f K t
+    → Served f K (fetched p (fetchRule f R p) ∷ t)
 unfolding Served fetchRule
 fetch-served running R K p t h S = (refl, S)
 fetch-served finished R K p t h S = (subst (λ (X : List Row). FetchedFrom K p (fetchRule finished X p)) (sym (h refl)) (fetch-right K p), S)
 fetch-served closed R K p t h S = (refl, S)
 
-copy-served : (f : Phase) (R K : List Row) (a b : List ℕ) (t : List Event) → (f ≡ finished → R ≡ K) → Served f K t → Served f K (copied-to a b (copyRule f R a b) ∷ t)
+copy-served : (f : Phase) (R K : List Row) (a b : List ℕ) (t : List Event) → (f ≡ finished → R ≡ K) → Served f K t
+    → Served f K (copiedTo a b (copyRule f R a b) ∷ t)
 unfolding Served copyRule
 copy-served running R K a b t h S = ((refl, refl, refl), S)
-copy-served finished R K a b t h S = (subst (λ (X : List Row). CopiedFrom K a b (copyRule finished X a b)) (sym (h refl)) (copy-right K a b), S)
+copy-served finished R K a b t h S =
+    (subst (λ (X : List Row). CopiedFrom K a b (copyRule finished X a b)) (sym (h refl)) (copy-right K a b), S)
 copy-served closed R K a b t h S = ((refl, refl, refl), S)
 
 after-fetch : (s : ℕ) (f : Phase) (R : List Row) (zs : List ℤ) (ps : List ℕ) (t : List Event) (end : State) (p : ℕ)
@@ -141,7 +156,7 @@ after-fetch s f R zs ps t end p S =
     }
 
 after-copy : (s : ℕ) (f : Phase) (R : List Row) (zs : List ℤ) (ps : List ℕ) (t : List Event) (end : State) (a b : List ℕ)
-    → Story s f R zs ps t end → Story s f R zs ps (copied-to a b (copyRule f R a b) ∷ t) end
+    → Story s f R zs ps t end → Story s f R zs ps (copiedTo a b (copyRule f R a b) ∷ t) end
 unfolding taken given phaseOf Orderly
 after-copy s f R zs ps t end a b S =
     record {
@@ -158,7 +173,7 @@ unfolding phaseOf heard
 done-stays [] = refl
 done-stays (answered z x ∷ t) = done-stays t
 done-stays (fetched p x ∷ t) = done-stays t
-done-stays (copied-to a b x ∷ t) = done-stays t
+done-stays (copiedTo a b x ∷ t) = done-stays t
 
 pub not-done-no-rows : (f : Phase) (K : List Row) (t : List Event) → phaseOf f t ≢ finished → Served f K t → NoRows t
 unfolding phaseOf Served NoRows
@@ -167,16 +182,16 @@ not-done-no-rows f K (answered z x ∷ t) h S = not-done-no-rows (heard f x) K t
 not-done-no-rows running K (fetched p x ∷ t) h S = (S .0, not-done-no-rows running K t h (S .1))
 not-done-no-rows finished K (fetched p x ∷ t) h S = absurd (h (done-stays t))
 not-done-no-rows closed K (fetched p x ∷ t) h S = (S .0, not-done-no-rows closed K t h (S .1))
-not-done-no-rows running K (copied-to a b x ∷ t) h S = (S .0, not-done-no-rows running K t h (S .1))
-not-done-no-rows finished K (copied-to a b x ∷ t) h S = absurd (h (done-stays t))
-not-done-no-rows closed K (copied-to a b x ∷ t) h S = (S .0, not-done-no-rows closed K t h (S .1))
+not-done-no-rows running K (copiedTo a b x ∷ t) h S = (S .0, not-done-no-rows running K t h (S .1))
+not-done-no-rows finished K (copiedTo a b x ∷ t) h S = absurd (h (done-stays t))
+not-done-no-rows closed K (copiedTo a b x ∷ t) h S = (S .0, not-done-no-rows closed K t h (S .1))
 
 -- ---- every list of calls
 
 module _ (N : ℕ → List Row → List ℤ → Option (List Row)) (right : RightRows N) (s : ℕ) (h : 1 ≤ s) where
   -- what the calls cs do, from any record
   abbrev Goes : List Call → Type 0
-  Goes cs = (r : State) (zs : List ℤ) (ps : List ℕ) → Inv s r zs ps → Story s (r .phase) (r .rows) zs ps (events N r cs) (play N r cs)
+  Goes cs = (r : State) (zs : List ℤ) (ps : List ℕ) → Inv s r zs ps → Story s (r .phase) (r .rows) zs ps (events N r cs) (stateAfter N r cs)
 
   kept-late : (r : State) (z : ℤ) (f : Phase) → r .phase ≡ f → (f ≡ running → ⊥) → answerOf N r z ≡ (r, refused 7)
   unfolding answerOf
@@ -185,21 +200,25 @@ module _ (N : ℕ → List Row → List ℤ → Option (List Row)) (right : Righ
   kept-late r z closed e k = ap (λ (f : Phase). inPhase N r f z) e
 
   late-call : (z : ℤ) (cs : List Call) → Goes cs → (r : State) (zs : List ℤ) (ps : List ℕ) → Inv s r zs ps → (r .phase ≡ running → ⊥)
-      → Story s (r .phase) (r .rows) zs ps (answered z (answerOf N r z .1) ∷ events N (answerOf N r z .0) cs) (play N (answerOf N r z .0) cs)
+      → Story s (r .phase) (r .rows) zs ps (answered z (answerOf N r z .1) ∷ events N (answerOf N r z .0) cs)
+      (stateAfter N (answerOf N r z .0) cs)
   late-call z cs ih r zs ps inv k =
-      subst (λ (o : State × Step). Story s (r .phase) (r .rows) zs ps (answered z (o .1) ∷ events N (o .0) cs) (play N (o .0) cs))
+      subst (λ (o : State × Step). Story s (r .phase) (r .rows) zs ps (answered z (o .1) ∷ events N (o .0) cs) (stateAfter N (o .0) cs))
       (sym (kept-late r z (r .phase) refl k))
-      (after-late s (r .phase) (r .rows) zs ps (events N r cs) (play N r cs) z k (ih r zs ps inv))
+      (after-late s (r .phase) (r .rows) zs ps (events N r cs) (stateAfter N r cs) z k (ih r zs ps inv))
 
   taken-call : (z : ℤ) (cs : List Call) → Goes cs → (r : State) (zs : List ℤ) (ps : List ℕ) → Inv s r zs ps → r .phase ≡ running
-      → Story s running (r .rows) zs ps (answered z (answerOf N r z .1) ∷ events N (answerOf N r z .0) cs) (play N (answerOf N r z .0) cs)
+      → Story s running (r .rows) zs ps (answered z (answerOf N r z .1) ∷ events N (answerOf N r z .0) cs)
+      (stateAfter N (answerOf N r z .0) cs)
   taken-call z cs ih r zs ps inv e =
       let A : After s zs ps z (answerOf N r z) = answer-running N right s r zs ps z h inv e in
-      after-taken s (r .rows) (answerOf N r z .0 .rows) zs ps (events N (answerOf N r z .0) cs) (play N (answerOf N r z .0) cs) z (answerOf N r z .1)
+      after-taken s (r .rows) (answerOf N r z .0 .rows) zs ps (events N (answerOf N r z .0) cs) (stateAfter N (answerOf N r z .0) cs) z
+      (answerOf N r z .1)
       (answerOf N r z .0 .phase) (A .phase) (A .proper) (ih (answerOf N r z .0) (zs ++ (z ∷ [])) (ps ++ asks (answerOf N r z .1)) (A .inv))
 
   answer-call : (z : ℤ) (cs : List Call) → Goes cs → (r : State) (zs : List ℤ) (ps : List ℕ) → Inv s r zs ps
-      → Story s (r .phase) (r .rows) zs ps (answered z (answerOf N r z .1) ∷ events N (answerOf N r z .0) cs) (play N (answerOf N r z .0) cs)
+      → Story s (r .phase) (r .rows) zs ps (answered z (answerOf N r z .1) ∷ events N (answerOf N r z .0) cs)
+      (stateAfter N (answerOf N r z .0) cs)
   answer-call z cs ih r zs ps inv = go (r .phase) refl
     where
       no-phase : (f : Phase) → (f ≡ finished) ⊎ (f ≡ closed) → f ≡ running → ⊥
@@ -207,16 +226,19 @@ module _ (N : ℕ → List Row → List ℤ → Option (List Row)) (right : Righ
       no-phase f (inr a) b = let x : _≡_ {A = ℕ} 0 1 = cc in omega arith
 
       go : (f : Phase) → r .phase ≡ f
-          → Story s (r .phase) (r .rows) zs ps (answered z (answerOf N r z .1) ∷ events N (answerOf N r z .0) cs) (play N (answerOf N r z .0) cs)
+          → Story s (r .phase) (r .rows) zs ps (answered z (answerOf N r z .1) ∷ events N (answerOf N r z .0) cs)
+          (stateAfter N (answerOf N r z .0) cs)
       go running e =
-          subst (λ (f : Phase). Story s f (r .rows) zs ps (answered z (answerOf N r z .1) ∷ events N (answerOf N r z .0) cs) (play N (answerOf N r z .0) cs))
+          subst (λ (f : Phase).
+          Story s f (r .rows) zs ps (answered z (answerOf N r z .1) ∷ events N (answerOf N r z .0) cs)
+          (stateAfter N (answerOf N r z .0) cs))
           (sym e) (taken-call z cs ih r zs ps inv e)
       go finished e = late-call z cs ih r zs ps inv (no-phase (r .phase) (inl e))
       go closed e = late-call z cs ih r zs ps inv (no-phase (r .phase) (inr e))
 
   pub story : (cs : List Call) → Goes cs
-  unfolding events play fetchOf copyOf
+  unfolding events stateAfter fetchOf copyOf
   story [] r zs ps inv = no-calls s r zs ps inv
   story (answer z ∷ cs) r zs ps inv = answer-call z cs (story cs) r zs ps inv
-  story (fetch p ∷ cs) r zs ps inv = after-fetch s (r .phase) (r .rows) zs ps (events N r cs) (play N r cs) p (story cs r zs ps inv)
-  story (copy a b ∷ cs) r zs ps inv = after-copy s (r .phase) (r .rows) zs ps (events N r cs) (play N r cs) a b (story cs r zs ps inv)
+  story (fetch p ∷ cs) r zs ps inv = after-fetch s (r .phase) (r .rows) zs ps (events N r cs) (stateAfter N r cs) p (story cs r zs ps inv)
+  story (copy a b ∷ cs) r zs ps inv = after-copy s (r .phase) (r .rows) zs ps (events N r cs) (stateAfter N r cs) a b (story cs r zs ps inv)

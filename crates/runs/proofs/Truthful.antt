@@ -12,7 +12,7 @@ use Rattle.rounds.specs.Rows.{Row, Oracle, realized, Fits}
 use Rattle.rounds.specs.NextRows.{RightRows}
 use Rattle.rounds.specs.RoundEnd.{roundRows}
 use Rattle.runs.specs.Run.{Step, ask, done, refused, Phase, running, finished, closed, State, startOf, answerOf}
-use Rattle.runs.specs.Demand.{play, heard, asks}
+use Rattle.runs.specs.Demand.{stateAfter, heard, asks}
 use Rattle.runs.specs.Truthful.{truthful, onward, TruthfulRuns}
 use Rattle.rounds.proofs.Restrict.{fits-append}
 use Rattle.rounds.proofs.Answers.{Facts, facts}
@@ -50,10 +50,10 @@ module _ (N : ℕ → List Row → List ℤ → Option (List Row)) (right : Righ
   abbrev Goes : ℕ → Type 0
   Goes k =
       (r : State) (zs : List ℤ) (qs : List ℕ) (α : ℕ) → Inv s r zs (qs ++ (α ∷ [])) → r .phase ≡ running → length qs ≡ length zs
-      → Fits s E qs zs → 2 * mostPoints * s < length zs + k → Ends (play N r (truthful N s E k r α))
+      → Fits s E qs zs → 2 * mostPoints * s < length zs + k → Ends (stateAfter N r (truthful N s E k r α))
 
   one-answer : (k : ℕ) → Goes k → Goes (suc k)
-  unfolding truthful play asks heard
+  unfolding truthful stateAfter asks heard
   one-answer k more r zs qs α I e l f m = next (answerOf N r z .0) (answerOf N r z .1) (A .inv) (A .phase)
     where
       z : ℤ
@@ -69,7 +69,7 @@ module _ (N : ℕ → List Row → List ℤ → Option (List Row)) (right : Righ
       last r′ I′ = subst (Inv s r′ (zs ++ (z ∷ []))) (append-nil (qs ++ (α ∷ []))) I′
 
       next : (r′ : State) (x : Step) → Inv s r′ (zs ++ (z ∷ [])) ((qs ++ (α ∷ [])) ++ asks x) → heard running x ≡ r′ .phase
-          → Ends (play N r′ (onward x (truthful N s E k r′)))
+          → Ends (stateAfter N r′ (onward x (truthful N s E k r′)))
       next r′ (ask β) I′ e′ =
           more r′ (zs ++ (z ∷ [])) (qs ++ (α ∷ [])) β I′ (sym e′)
           (omega (arith, l, length-append qs (α ∷ []), length-append zs (z ∷ []))) fit (omega (arith, m, length-append zs (z ∷ [])))

@@ -1,17 +1,19 @@
 -- Demand 3, "Key", as one statement over every list of calls on one run (document 01, "The words of demand 3").
 --
---   Call, Event      == an answer, a row fetch or a copy of all rows; the call with what it gave
---   play, events     == the record and the events after a list of calls: "each call gets the record as the start or the call before left it"
---   phaseOf f t      == "the run is done, or closed, once an answer taken has given that"
---   taken f t        == the answers taken: "an answer is taken unless the run was done or closed before it came"
---   given f t        == the products that answers taken gave to ask
---   Orderly f t      == "7 refuses no other": an answer gets 7 after done or closed, and only then; the numbers that close are 8, 9 and 10
---   Served f K t     == once the run is done, what is fetched and copied is K's: "position p below r fetches row p, and a copy into slices of
---                       at least r writes them all in order"; before that and on a closed run no row is fetched or copied
---   NoRows t         == no row is fetched or copied
---   SomeFits s ps zs == some oracle for s polynomials fits the answers zs to the products ps
---   IsKey            == what demand 3 says of the key of a done run
---   Claim            == what demand 3 says of the products asked, the answers taken, the phase, the question total and the events
+--   Call, Event        == an answer, a row fetch or a copy of all rows; the call with what it gave
+--   stateAfter, events == the record and the events after a list of calls: "each call gets the record as the start or the call before left
+--                         it"
+--   phaseOf f t        == "the run is done, or closed, once an answer taken has given that"
+--   taken f t          == the answers taken: "an answer is taken unless the run was done or closed before it came"
+--   given f t          == the products that answers taken gave to ask
+--   Orderly f t        == "7 refuses no other": an answer gets 7 after done or closed, and only then; the numbers that close are 8, 9 and
+--                         10
+--   Served f K t       == once the run is done, what is fetched and copied is K's: "position p below r fetches row p, and a copy into
+--                         slices of at least r writes them all in order"; before that and on a closed run no row is fetched or copied
+--   NoRows t           == no row is fetched or copied
+--   SomeFits s ps zs   == some oracle for s polynomials fits the answers zs to the products ps
+--   IsKey              == what demand 3 says of the key of a done run
+--   Claim              == what demand 3 says of the products asked, the answers taken, the phase, the question total and the events
 use mathlib.Core.Path.{_≡_}
 use mathlib.Core.Logic.{_≢_, _⊎_, _↔_}
 use mathlib.Core.Option.{Option}
@@ -25,7 +27,8 @@ use Rattle.signs.specs.Lists.{total as sumBelow}
 use Rattle.rounds.specs.Rows.{Row, IsAt, Oracle, realized, IsRealized, Fits}
 use Rattle.rounds.specs.Rounds.{AtEnd, LastEnded, InOrder, RowsAfter}
 use Rattle.rounds.specs.RoundEnd.{roundRows}
-use Rattle.runs.specs.Run.{Step, ask, done, refused, Fetch, row, no-row, Copied, copied, not-copied, Copy, Phase, running, finished, closed, State, startOf, answerOf, fetchOf, copyOf}
+use Rattle.runs.specs.Run.{Step, ask, done, refused, Fetch, row, noRow, Copied, copied, notCopied, Copy, Phase, running, finished}
+use Rattle.runs.specs.Run.{closed, State, startOf, answerOf, fetchOf, copyOf}
 
 -- ---- calls, and what an observer sees of them
 
@@ -37,20 +40,20 @@ pub data Call : Type 0 where
 pub data Event : Type 0 where
   answered : ℤ → Step → Event
   fetched : ℕ → Fetch → Event
-  copied-to : List ℕ → List ℕ → Copy → Event
+  copiedTo : List ℕ → List ℕ → Copy → Event
 
 module _ (N : ℕ → List Row → List ℤ → Option (List Row)) where
-  unfoldable pub play : State → List Call → State
-  play r [] = r
-  play r (answer z ∷ cs) = play (answerOf N r z .0) cs
-  play r (fetch p ∷ cs) = play r cs
-  play r (copy a b ∷ cs) = play r cs
+  unfoldable pub stateAfter : State → List Call → State
+  stateAfter r [] = r
+  stateAfter r (answer z ∷ cs) = stateAfter (answerOf N r z .0) cs
+  stateAfter r (fetch p ∷ cs) = stateAfter r cs
+  stateAfter r (copy a b ∷ cs) = stateAfter r cs
 
   unfoldable pub events : State → List Call → List Event
   events r [] = []
   events r (answer z ∷ cs) = answered z (answerOf N r z .1) ∷ events (answerOf N r z .0) cs
   events r (fetch p ∷ cs) = fetched p (fetchOf r p) ∷ events r cs
-  events r (copy a b ∷ cs) = copied-to a b (copyOf r a b) ∷ events r cs
+  events r (copy a b ∷ cs) = copiedTo a b (copyOf r a b) ∷ events r cs
 
 -- a step heard in the phase f
 unfoldable pub heard : Phase → Step → Phase
@@ -64,7 +67,7 @@ unfoldable pub phaseOf : Phase → List Event → Phase
 phaseOf f [] = f
 phaseOf f (answered z x ∷ t) = phaseOf (heard f x) t
 phaseOf f (fetched p x ∷ t) = phaseOf f t
-phaseOf f (copied-to a b x ∷ t) = phaseOf f t
+phaseOf f (copiedTo a b x ∷ t) = phaseOf f t
 
 unfoldable pub takes : {A : Type 0} → Phase → List A → List A → List A
 takes running a l = a ++ l
@@ -75,7 +78,7 @@ unfoldable pub taken : Phase → List Event → List ℤ
 taken f [] = []
 taken f (answered z x ∷ t) = takes f (z ∷ []) (taken (heard f x) t)
 taken f (fetched p x ∷ t) = taken f t
-taken f (copied-to a b x ∷ t) = taken f t
+taken f (copiedTo a b x ∷ t) = taken f t
 
 unfoldable pub asks : Step → List ℕ
 asks (ask α) = α ∷ []
@@ -86,7 +89,7 @@ unfoldable pub given : Phase → List Event → List ℕ
 given f [] = []
 given f (answered z x ∷ t) = takes f (asks x) (given (heard f x) t)
 given f (fetched p x ∷ t) = given f t
-given f (copied-to a b x ∷ t) = given f t
+given f (copiedTo a b x ∷ t) = given f t
 
 -- ---- 7 after done or closed, and only then
 
@@ -101,14 +104,14 @@ unfoldable pub Orderly : Phase → List Event → Type 0
 Orderly f [] = Unit {0}
 Orderly f (answered z x ∷ t) = Proper f x × Orderly (heard f x) t
 Orderly f (fetched p x ∷ t) = Orderly f t
-Orderly f (copied-to a b x ∷ t) = Orderly f t
+Orderly f (copiedTo a b x ∷ t) = Orderly f t
 
 -- ---- rows fetched and copied
 
 -- position p of a key K fetches row p, and past the last 14
 pub record FetchedFrom (K : List Row) (p : ℕ) (x : Fetch) : Type 0 where
   pub below : p < length K → (r : Row) × IsAt K p r × (x ≡ row r)
-  pub past : length K ≤ p → x ≡ no-row 14
+  pub past : length K ≤ p → x ≡ noRow 14
 
 -- the slice a, with f of each row of K written to it in order; what lies past them is kept
 pub record Written (f : Row → ℕ) (K : List Row) (a a′ : List ℕ) : Type 0 where
@@ -118,29 +121,29 @@ pub record Written (f : Row → ℕ) (K : List Row) (a a′ : List ℕ) : Type 0
 
 -- a copy that writes nothing
 abbrev pub Refused : ℕ → List ℕ → List ℕ → Copy → Type 0
-Refused k a b x = (x .result ≡ not-copied k) × (x .patterns-left ≡ a) × (x .counts-left ≡ b)
+Refused k a b x = (x .result ≡ notCopied k) × (x .patternsLeft ≡ a) × (x .countsLeft ≡ b)
 
 -- slices of at least r get all rows, and the call says how many; a shorter one, and nothing is written, 15
 pub record CopiedFrom (K : List Row) (a b : List ℕ) (x : Copy) : Type 0 where
   pub fits : length K ≤ length a → length K ≤ length b
-      → (x .result ≡ copied (length K)) × Written (λ r. r .pattern) K a (x .patterns-left) × Written (λ r. r .count) K b (x .counts-left)
+      → (x .result ≡ copied (length K)) × Written (λ r. r .pattern) K a (x .patternsLeft) × Written (λ r. r .count) K b (x .countsLeft)
   pub short : (length a < length K) ⊎ (length b < length K) → Refused 15 a b x
 
 unfoldable pub Served : Phase → List Row → List Event → Type 0
 Served f K [] = Unit {0}
 Served f K (answered z x ∷ t) = Served (heard f x) K t
-Served running K (fetched p x ∷ t) = (x ≡ no-row 7) × Served running K t
+Served running K (fetched p x ∷ t) = (x ≡ noRow 7) × Served running K t
 Served finished K (fetched p x ∷ t) = FetchedFrom K p x × Served finished K t
-Served closed K (fetched p x ∷ t) = (x ≡ no-row 7) × Served closed K t
-Served running K (copied-to a b x ∷ t) = Refused 7 a b x × Served running K t
-Served finished K (copied-to a b x ∷ t) = CopiedFrom K a b x × Served finished K t
-Served closed K (copied-to a b x ∷ t) = Refused 7 a b x × Served closed K t
+Served closed K (fetched p x ∷ t) = (x ≡ noRow 7) × Served closed K t
+Served running K (copiedTo a b x ∷ t) = Refused 7 a b x × Served running K t
+Served finished K (copiedTo a b x ∷ t) = CopiedFrom K a b x × Served finished K t
+Served closed K (copiedTo a b x ∷ t) = Refused 7 a b x × Served closed K t
 
 unfoldable pub NoRows : List Event → Type 0
 NoRows [] = Unit {0}
 NoRows (answered z x ∷ t) = NoRows t
-NoRows (fetched p x ∷ t) = (x ≡ no-row 7) × NoRows t
-NoRows (copied-to a b x ∷ t) = Refused 7 a b x × NoRows t
+NoRows (fetched p x ∷ t) = (x ≡ noRow 7) × NoRows t
+NoRows (copiedTo a b x ∷ t) = Refused 7 a b x × NoRows t
 
 -- ---- the claim
 
@@ -178,8 +181,8 @@ pub record Claim (s : ℕ) (ps : List ℕ) (zs : List ℤ) (f : Phase) (total : 
   pub in-order : InOrder s zs ps
   -- "While an examiner fits these answers the run isn't closed"
   pub open-while : SomeFits s ps zs → f ≢ closed
-  -- "once none fits it is closed, at the latest at the end of that round": where none fits the first k answers and a round ends with the first m
-  -- of them, k ≤ m, the run is closed, and no answer was taken after the m-th
+  -- "once none fits it is closed, at the latest at the end of that round": where none fits the first k answers and a round ends with the
+  -- first m of them, k ≤ m, the run is closed, and no answer was taken after the m-th
   pub closed-by : (k m i : ℕ) (qs : List ℕ) → k ≤ m → m ≤ length zs → i ≤ s → (SomeFits s ps (take k zs) → ⊥) → AtEnd i (take m zs) qs
       → (f ≡ closed) × (length zs ≡ m)
   -- "it is done exactly when its last round has ended and an examiner fits"
@@ -187,7 +190,8 @@ pub record Claim (s : ℕ) (ps : List ℕ) (zs : List ℤ) (f : Phase) (total : 
   -- the key of a done run, and the rows that it served; "before that, and on a closed run, no row is fetched or copied"
   pub key : f ≡ finished → (K : List Row) × IsKey s ps zs total t K
   pub no-rows : f ≢ finished → NoRows t
-  -- "With r(i) the number of rows after round i, and r(0) = 1, a done run with n > 0 has asked exactly 1 + 2 × (r(0) + .. + r(s−1)) products"
+  -- "With r(i) the number of rows after round i, and r(0) = 1, a done run with n > 0 has asked exactly 1 + 2 × (r(0) + .. + r(s−1))
+  -- products"
   pub exact : f ≡ finished → zs ≢ pos 0 ∷ [] → (r : ℕ → ℕ) × ((i : ℕ) → i < s → RowsAfter i zs (r i)) × (r 0 ≡ 1)
       × (total ≡ 1 + 2 * sumBelow r s)
   -- "at most 593"
@@ -197,7 +201,7 @@ pub record Claim (s : ℕ) (ps : List ℕ) (zs : List ℤ) (f : Phase) (total : 
 abbrev pub ClaimFor : (ℕ → List Row → List ℤ → Option (List Row)) → ℕ → List Call → Type 0
 ClaimFor N s calls =
     Claim s (0 ∷ given running (events N (startOf s) calls)) (taken running (events N (startOf s) calls))
-    (phaseOf running (events N (startOf s) calls)) (play N (startOf s) calls .total) (events N (startOf s) calls)
+    (phaseOf running (events N (startOf s) calls)) (stateAfter N (startOf s) calls .total) (events N (startOf s) calls)
 
 -- DEMAND 3
 abbrev pub Demand3 : Type 0

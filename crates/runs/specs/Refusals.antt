@@ -1,10 +1,10 @@
--- The lines of document 01's table "Cause, and what the caller gets" that concern a run, for every record, also one that no call could have left:
--- "Each number is given for its cause and no other."
+-- The lines of document 01's table "Cause, and what the caller gets" that concern a run, for every record, also one that no call could have
+-- left: "Each number is given for its cause and no other."
 --
 --   OutOfFirst z == z is no first answer: below 0 or above 64
 --   Shut r r′    == r′ is r closed: it has one more question and no rows
---   Refusals N   == the numbers of an answer (7, 8, 9, 10), of a row fetch (7, 14) and of a copy of all rows (7, 15), each with its cause, and
---                   what is left as it was
+--   Refusals N   == the numbers of an answer (7, 8, 9, 10), of a row fetch (7, 14) and of a copy of all rows (7, 15), each with its cause,
+--                   and what is left as it was
 use mathlib.Core.Path.{_≡_}
 use mathlib.Core.Logic.{_≢_, _⊎_, _↔_}
 use mathlib.Core.Option.{Option, none}
@@ -14,7 +14,8 @@ use lib.IntN.{ℤ, pos, natAbs}
 use lib.ListN.{length}
 use Rattle.refusals.specs.Limits.{mostPoints}
 use Rattle.rounds.specs.Rows.{Row}
-use Rattle.runs.specs.Run.{Step, refused, Fetch, no-row, Copied, not-copied, Phase, running, finished, closed, State, answerOf, fetchOf, copyOf}
+use Rattle.runs.specs.Run.{Step, refused, Fetch, noRow, Copied, notCopied, Phase, running, finished, closed, State, answerOf, fetchOf}
+use Rattle.runs.specs.Run.{copyOf}
 
 abbrev pub OutOfFirst : ℤ → Type 0
 OutOfFirst z = (n : ℕ) → n ≤ mostPoints → z ≢ pos n
@@ -38,12 +39,12 @@ pub record Refusals (N : ℕ → List Row → List ℤ → Option (List Row)) : 
   pub closes : (r : State) (z : ℤ) (k : ℕ) → answerOf N r z .1 ≡ refused k → k ≢ 7
       → ((k ≡ 8) ⊎ ((k ≡ 9) ⊎ (k ≡ 10))) × Shut r (answerOf N r z .0)
   -- "rows wanted before done or after closed": 7; "row position past the last": 14
-  pub fetch-7 : (r : State) (p : ℕ) → (fetchOf r p ≡ no-row 7) ↔ (r .phase ≢ finished)
-  pub fetch-14 : (r : State) (p : ℕ) → (fetchOf r p ≡ no-row 14) ↔ ((r .phase ≡ finished) × (length (r .rows) ≤ p))
+  pub fetch-7 : (r : State) (p : ℕ) → (fetchOf r p ≡ noRow 7) ↔ (r .phase ≢ finished)
+  pub fetch-14 : (r : State) (p : ℕ) → (fetchOf r p ≡ noRow 14) ↔ ((r .phase ≡ finished) × (length (r .rows) ≤ p))
   -- the same 7 for a copy; "an output slice too short": 15
-  pub copy-7 : (r : State) (a b : List ℕ) → (copyOf r a b .result ≡ not-copied 7) ↔ (r .phase ≢ finished)
-  pub copy-15 : (r : State) (a b : List ℕ) → (copyOf r a b .result ≡ not-copied 15)
+  pub copy-7 : (r : State) (a b : List ℕ) → (copyOf r a b .result ≡ notCopied 7) ↔ (r .phase ≢ finished)
+  pub copy-15 : (r : State) (a b : List ℕ) → (copyOf r a b .result ≡ notCopied 15)
       ↔ ((r .phase ≡ finished) × ((length a < length (r .rows)) ⊎ (length b < length (r .rows))))
   -- "every output slice" as it was
-  pub slices-kept : (r : State) (a b : List ℕ) (k : ℕ) → copyOf r a b .result ≡ not-copied k
-      → (copyOf r a b .patterns-left ≡ a) × (copyOf r a b .counts-left ≡ b)
+  pub slices-kept : (r : State) (a b : List ℕ) (k : ℕ) → copyOf r a b .result ≡ notCopied k
+      → (copyOf r a b .patternsLeft ≡ a) × (copyOf r a b .countsLeft ≡ b)

@@ -1,17 +1,17 @@
--- The rules of a run (document 01, "The run"): what its record holds, and what the start, an answer, a row fetch and a copy of all rows give.
--- How a round's rows are found is a parameter N, so that demand 3 rests on `RightRows` of it alone.
+-- The rules of a run (document 01, "The run"): what its record holds, and what the start, an answer, a row fetch and a copy of all rows
+-- give. How a round's rows are found is a parameter N, so that demand 3 rests on `RightRows` of it alone.
 --
---   Step         == what an answer gives: "the next product to ask, done, or closed with a refusal number"; 7 after done or closed
---   Fetch        == what a row fetch gives: a row, or a refusal number
---   Copy         == what a copy of all rows gives: how many rows, or a refusal number; and the two lent slices as they are left
---   State        == the run record
---   newIn f s    == a record for s polynomials in the phase f that has asked nothing
---   afterAnswer  == the record after an answer that is taken, from its parts
---   startOf s    == the record of a run for s polynomials before the first answer
---   productAt i A k == the k-th product of round i + 1, A being the adapted list of the rows before it
---   answerOf N r z  == the record after the answer z, and the step
---   fetchOf r p     == the row at position p
---   copyOf r a b    == all rows copied to the slices a (patterns) and b (counts)
+--   Step               == what an answer gives: "the next product to ask, done, or closed with a refusal number"; 7 after done or closed
+--   Fetch              == what a row fetch gives: a row, or a refusal number
+--   Copy               == what a copy of all rows gives: how many rows, or a refusal number; and the two lent slices as they are left
+--   State              == the run record
+--   newIn f s          == a record for s polynomials in the phase f that has asked nothing
+--   afterAnswer        == the record after an answer that is taken, from its parts
+--   startOf s          == the record of a run for s polynomials before the first answer
+--   roundProduct i A k == the k-th product of round i + 1, A being the adapted list of the rows before it
+--   answerOf N r z     == the record after the answer z, and the step
+--   fetchOf r p        == the row at position p
+--   copyOf r a b       == all rows copied to the slices a (patterns) and b (counts)
 use mathlib.Core.Bool.{Bool, true, false, cond}
 use mathlib.Core.Option.{Option, some, none}
 use mathlib.Core.List.{List, [], _∷_, _++_, map}
@@ -33,16 +33,16 @@ pub data Step : Type 0 where
 
 pub data Fetch : Type 0 where
   row : Row → Fetch
-  no-row : ℕ → Fetch
+  noRow : ℕ → Fetch
 
 pub data Copied : Type 0 where
   copied : ℕ → Copied
-  not-copied : ℕ → Copied
+  notCopied : ℕ → Copied
 
 pub record Copy : Type 0 where
   pub result : Copied
-  pub patterns-left : List ℕ
-  pub counts-left : List ℕ
+  pub patternsLeft : List ℕ
+  pub countsLeft : List ℕ
 
 -- ---- the record
 
@@ -74,9 +74,10 @@ startOf s = newIn running s
 
 -- ---- an answer
 
--- the k-th product of round i + 1, from 0, where A is the rows' adapted list: "every a in A with 3^i added, in order, then every a with 2 × 3^i added"
-unfoldable pub productAt : ℕ → List ℕ → ℕ → ℕ
-productAt i A k = cond (ltb k (length A)) (getD A k 0 + 3 ^ i) (getD A (k - length A) 0 + 2 * 3 ^ i)
+-- the k-th product of round i + 1, from 0, where A is the rows' adapted list: "every a in A with 3^i added, in order, then every a with 2 ×
+-- 3^i added"
+unfoldable pub roundProduct : ℕ → List ℕ → ℕ → ℕ
+roundProduct i A k = cond (ltb k (length A)) (getD A k 0 + 3 ^ i) (getD A (k - length A) 0 + 2 * 3 ^ i)
 
 module _ (N : ℕ → List Row → List ℤ → Option (List Row)) where
   -- the record closed: no rows
@@ -86,31 +87,31 @@ module _ (N : ℕ → List Row → List ℤ → Option (List Row)) where
   -- round i has ended with rows R, the first answer being n: the run is done, or the next round begins
   abbrev pub ended : State → ℕ → ℕ → List Row → Bool → State × Step
   ended r i n R true = (afterAnswer r finished i n R [] [], done)
-  ended r i n R false = let A = adapted i (patterns R) in (afterAnswer r running (suc i) n R A [], ask (productAt i A 0))
+  ended r i n R false = let A = adapted i (patterns R) in (afterAnswer r running (suc i) n R A [], ask (roundProduct i A 0))
 
   abbrev pub endRound : State → ℕ → Option (List Row) → State × Step
   endRound r i none = close r noCounts
   endRound r i (some R) = ended r (suc i) (r .n) R (eqb (suc i) (r .polynomials))
 
   -- round i + 1 has the answers ws so far: it goes on, or it ends
-  abbrev pub goOn : State → ℕ → List ℤ → Bool → State × Step
-  goOn r i ws true = (afterAnswer r running (suc i) (r .n) (r .rows) (r .products) ws, ask (productAt i (r .products) (length ws)))
-  goOn r i ws false = endRound r i (N i (r .rows) ws)
+  abbrev pub roundStep : State → ℕ → List ℤ → Bool → State × Step
+  roundStep r i ws true = (afterAnswer r running (suc i) (r .n) (r .rows) (r .products) ws, ask (roundProduct i (r .products) (length ws)))
+  roundStep r i ws false = endRound r i (N i (r .rows) ws)
 
   -- the answer of round 0, and one of round i + 1
-  abbrev pub first : State → ℤ → State × Step
-  first r (pos n) = cond (leb n mostPoints) (ended r 0 n (rowIf 0 n) (eqb n 0)) (close r badFirst)
-  first r (negsuc n) = close r badFirst
+  abbrev pub firstAnswer : State → ℤ → State × Step
+  firstAnswer r (pos n) = cond (leb n mostPoints) (ended r 0 n (rowIf 0 n) (eqb n 0)) (close r badFirst)
+  firstAnswer r (negsuc n) = close r badFirst
 
-  abbrev pub later : State → ℕ → ℤ → State × Step
-  later r i z =
+  abbrev pub laterAnswer : State → ℕ → ℤ → State × Step
+  laterAnswer r i z =
       cond (leb (natAbs z) (r .n))
-      (goOn r i (r .answers ++ (z ∷ [])) (ltb (length (r .answers ++ (z ∷ []))) (2 * length (r .products))))
+      (roundStep r i (r .answers ++ (z ∷ [])) (ltb (length (r .answers ++ (z ∷ []))) (2 * length (r .products))))
       (close r badLater)
 
   abbrev pub inRound : State → ℕ → ℤ → State × Step
-  inRound r zero z = first r z
-  inRound r (suc i) z = later r i z
+  inRound r zero z = firstAnswer r z
+  inRound r (suc i) z = laterAnswer r i z
 
   abbrev pub inPhase : State → Phase → ℤ → State × Step
   inPhase r running z = inRound r (r .round) z
@@ -123,15 +124,15 @@ module _ (N : ℕ → List Row → List ℤ → Option (List Row)) where
 -- ---- rows
 
 unfoldable pub fetchRule : Phase → List Row → ℕ → Fetch
-fetchRule running R p = no-row late
-fetchRule finished R p = cond (ltb p (length R)) (row (getD R p (record { pattern = 0; count = 0 }))) (no-row pastLast)
-fetchRule closed R p = no-row late
+fetchRule running R p = noRow late
+fetchRule finished R p = cond (ltb p (length R)) (row (getD R p (record { pattern = 0; count = 0 }))) (noRow pastLast)
+fetchRule closed R p = noRow late
 
 unfoldable pub fetchOf : State → ℕ → Fetch
 fetchOf r p = fetchRule (r .phase) (r .rows) p
 
 abbrev pub kept : ℕ → List ℕ → List ℕ → Copy
-kept k a b = record { result = not-copied k; patterns-left = a; counts-left = b }
+kept k a b = record { result = notCopied k; patternsLeft = a; countsLeft = b }
 
 unfoldable pub copyRule : Phase → List Row → List ℕ → List ℕ → Copy
 copyRule running R a b = kept late a b
@@ -140,8 +141,8 @@ copyRule finished R a b =
     (cond (leb (length R) (length b))
     (record {
       result = copied (length R);
-      patterns-left = map (λ r. r .pattern) R ++ drop (length R) a;
-      counts-left = map (λ r. r .count) R ++ drop (length R) b;
+      patternsLeft = map (λ r. r .pattern) R ++ drop (length R) a;
+      countsLeft = map (λ r. r .count) R ++ drop (length R) b;
     })
     (kept tooShort a b))
     (kept tooShort a b)

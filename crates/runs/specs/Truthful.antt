@@ -13,7 +13,7 @@ use Rattle.refusals.specs.Limits.{mostPoints}
 use Rattle.signs.specs.Signs.{query}
 use Rattle.rounds.specs.Rows.{Row, Oracle, realized}
 use Rattle.runs.specs.Run.{Step, ask, done, refused, finished, State, startOf, answerOf}
-use Rattle.runs.specs.Demand.{Call, answer, play}
+use Rattle.runs.specs.Demand.{Call, answer, stateAfter}
 
 -- where a step asks a product, the calls that follow
 abbrev pub onward : Step → (ℕ → List Call) → List Call
@@ -32,4 +32,5 @@ enough s = suc (2 * mostPoints * s)
 abbrev pub TruthfulRuns : (ℕ → List Row → List ℤ → Option (List Row)) → Type 0
 TruthfulRuns N =
     (s : ℕ) (E : List ℕ) → 1 ≤ s → Oracle s E → (k : ℕ) → enough s ≤ k
-    → (play N (startOf s) (truthful N s E k (startOf s) 0) .phase ≡ finished) × (play N (startOf s) (truthful N s E k (startOf s) 0) .rows ≡ realized s E)
+    → (stateAfter N (startOf s) (truthful N s E k (startOf s) 0) .phase ≡ finished)
+    × (stateAfter N (startOf s) (truthful N s E k (startOf s) 0) .rows ≡ realized s E)

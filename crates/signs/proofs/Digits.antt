@@ -1,4 +1,4 @@
--- Numbers below 3^(i+1) by their top digit. Assumes nothing.
+-- Numbers below 3^(i+1) by their top digit.
 use mathlib.Core.Path.{_≡_, refl, sym, ap, _∙_, subst}
 use mathlib.Core.Logic.{_≢_, _⊎_, inl, inr}
 use mathlib.Core.List.{List, [], _∷_, _++_}
@@ -34,7 +34,8 @@ split i q h = go (decLt q (3 ^ i)) (decLt q (2 * 3 ^ i))
 pub digits : (i q : ℕ) → q < 3 ^ suc i → (r d : ℕ) × (r < 3 ^ i) × (d < 3) × (q ≡ r + d * 3 ^ i)
 digits i q h = go (split i q h)
   where
-    go : (r : ℕ) × (r < 3 ^ i) × ((q ≡ r) ⊎ ((q ≡ r + 3 ^ i) ⊎ (q ≡ r + 2 * 3 ^ i))) → (r d : ℕ) × (r < 3 ^ i) × (d < 3) × (q ≡ r + d * 3 ^ i)
+    go : (r : ℕ) × (r < 3 ^ i) × ((q ≡ r) ⊎ ((q ≡ r + 3 ^ i) ⊎ (q ≡ r + 2 * 3 ^ i))) → (r d : ℕ) × (r < 3 ^ i) × (d < 3)
+        × (q ≡ r + d * 3 ^ i)
     go (r, b, inl e) = (r, 0, b, omega arith, omega arith)
     go (r, b, inr (inl e)) = (r, 1, b, omega arith, omega arith)
     go (r, b, inr (inr e)) = (r, 2, b, omega arith, omega arith)

@@ -1,4 +1,4 @@
--- The digits of a number as sets of polynomials, and the sign of a product on a pattern by them. Assumes nothing.
+-- The digits of a number as sets of polynomials, and the sign of a product on a pattern by them.
 use mathlib.Core.Path.{_≡_, refl, sym, ap, _∙_, subst}
 use mathlib.Core.Bool.{Bool, true, false, cond, _&&_}
 use Prim.Native.Nat.{ℕ, zero, suc, _+_, _*_, _-_, _/_, _%_, _^_, _<_, _≤_, min}
@@ -15,7 +15,7 @@ use Rattle.integers.proofs.Tests.{eqb-same, eqb-other}
 use Rattle.integers.proofs.Diff.{one-*ℤ, minus-*ℤ}
 use Rattle.integers.specs.Powers.{power}
 use Rattle.signs.specs.Signs.{signOf, sign}
-use Rattle.signs.specs.Bits.{bitOf, places, signBits}
+use Rattle.signs.specs.Bits.{bitOf, digitSet, signBits}
 use Rattle.signs.proofs.Digits.{top, low, digits}
 
 pub bit-le : (x y : ℕ) → bitOf x y ≤ 1
@@ -26,12 +26,12 @@ bit-le x y = go (eqb x y)
     go false = omega arith
 
 -- s digits are s bits
-pub places-lt : (d s n : ℕ) → places d s n < 2 ^ s
-unfolding places
+pub places-lt : (d s n : ℕ) → digitSet d s n < 2 ^ s
+unfolding digitSet
 places-lt d zero n = omega arith
 places-lt d (suc s) n = go (eqb (n / 3 ^ s) d) (places-lt d s (n % 3 ^ s))
   where
-    go : (b : Bool) → places d s (n % 3 ^ s) < 2 ^ s → cond b 1 0 * 2 ^ s + places d s (n % 3 ^ s) < 2 ^ suc s
+    go : (b : Bool) → digitSet d s (n % 3 ^ s) < 2 ^ s → cond b 1 0 * 2 ^ s + digitSet d s (n % 3 ^ s) < 2 ^ suc s
     go true h = omega (arith, pow-suc 2 s)
     go false h = omega (arith, pow-suc 2 s)
 
@@ -40,21 +40,23 @@ places-lt d (suc s) n = go (eqb (n / 3 ^ s) d) (places-lt d s (n % 3 ^ s))
 shifted : (x b j : ℕ) → (2 * x + b) * 2 ^ j ≡ x * 2 ^ suc j + b * 2 ^ j
 shifted x b j = rw (add-mul, pow-suc 2 j) (ap (λ (y : ℕ). y + b * 2 ^ j) (simp (mul-assoc, mul-comm, mul-left-comm)))
 
-pub places-step : (d j rest x : ℕ) → (2 * x + bitOf (rest / 3 ^ j) d) * 2 ^ j + places d j (rest % 3 ^ j) ≡ x * 2 ^ suc j + places d (suc j) rest
-unfolding places
+pub places-step : (d j rest x : ℕ) → (2 * x + bitOf (rest / 3 ^ j) d) * 2 ^ j + digitSet d j (rest % 3 ^ j)
+    ≡ x * 2 ^ suc j + digitSet d (suc j) rest
+unfolding digitSet
 places-step d j rest x = omega (arith, shifted x (bitOf (rest / 3 ^ j) d) j)
 
 -- the digits passed are few bits
-pub few-bits : (d j x y s n : ℕ) → x * 2 ^ j + y ≡ places d s n → s ≤ 8 → x < 256
+pub few-bits : (d j x y s n : ℕ) → x * 2 ^ j + y ≡ digitSet d s n → s ≤ 8 → x < 256
 few-bits d j x y s n e h =
     omega (arith, places-lt d s n, pow-mono h, le-mul-of-pos-right x (pow-pos j))
 
 -- one turn of the loop that takes the digits off: b is the bit of the digit q, whose weight is p, and r is left
 pub digit-off : (d j rest x b p q r s n : ℕ) → 0 < j → b ≡ bitOf q d → q ≡ rest / p → p ≡ 3 ^ (j - 1) → q * p + r ≡ rest
-    → x * 2 ^ j + places d j rest ≡ places d s n → (2 * x + b) * 2 ^ (j - 1) + places d (j - 1) r ≡ places d s n
+    → x * 2 ^ j + digitSet d j rest ≡ digitSet d s n → (2 * x + b) * 2 ^ (j - 1) + digitSet d (j - 1) r ≡ digitSet d s n
 digit-off d j rest x b p q r s n h eb eq ep er e =
     let ej : j ≡ suc (j - 1) = omega arith in
-    let e′ : x * 2 ^ suc (j - 1) + places d (suc (j - 1)) rest ≡ places d s n = subst (λ (k : ℕ). x * 2 ^ k + places d k rest ≡ places d s n) ej e in
+    let e′ : x * 2 ^ suc (j - 1) + digitSet d (suc (j - 1)) rest
+    ≡ digitSet d s n = subst (λ (k : ℕ). x * 2 ^ k + digitSet d k rest ≡ digitSet d s n) ej e in
     let eq′ : q ≡ rest / 3 ^ (j - 1) = eq ∙ ap (λ (y : ℕ). rest / y) ep in
     let er′ : r ≡ rest % 3 ^ (j - 1) = left-over (3 ^ (j - 1)) rest q r eq′ (subst (λ (y : ℕ). q * y + r ≡ rest) ep er) in
     rw (eb, eq′, er′) (places-step d (j - 1) rest x ∙ e′)
@@ -109,26 +111,28 @@ eqb-block k a b r s hr hs = go (ℕ-discrete a b) (ℕ-discrete r s)
     go (no e) f = rw (eqb-other (a * 2 ^ k + r) (b * 2 ^ k + s) (λ h. e (high h)), eqb-other a b e) refl
 
 -- the law: by their digits, the sign of the product α on the pattern σ
-pub sign-bits : (s α σ : ℕ) → α < 3 ^ s → σ < 3 ^ s → signBits (places 1 s α) (places 2 s α) (places 1 s σ) (places 2 s σ) ≡ sign s α σ
-unfolding signBits places sign ones
+pub sign-bits : (s α σ : ℕ) → α < 3 ^ s → σ < 3 ^ s → signBits (digitSet 1 s α) (digitSet 2 s α) (digitSet 1 s σ) (digitSet 2 s σ)
+    ≡ sign s α σ
+unfolding signBits digitSet sign ones
 sign-bits zero α σ a b = refl
 sign-bits (suc s) α σ a b =
     let (x, k, hx, hk, e) = digits s α a in
     let (y, t, hy, ht, f) = digits s σ b in
     rw (e, f, top s k hx, low s k hx, top s t hy, low s t hy) (go x k y t hk ht (sign-bits s x y hx hy))
   where
-    go : (x k y t : ℕ) → k < 3 → t < 3 → signBits (places 1 s x) (places 2 s x) (places 1 s y) (places 2 s y) ≡ sign s x y
-        → signBits (bitOf k 1 * 2 ^ s + places 1 s x) (bitOf k 2 * 2 ^ s + places 2 s x) (bitOf t 1 * 2 ^ s + places 1 s y) (bitOf t 2 * 2 ^ s + places 2 s y)
+    go : (x k y t : ℕ) → k < 3 → t < 3 → signBits (digitSet 1 s x) (digitSet 2 s x) (digitSet 1 s y) (digitSet 2 s y) ≡ sign s x y
+        → signBits (bitOf k 1 * 2 ^ s + digitSet 1 s x) (bitOf k 2 * 2 ^ s + digitSet 2 s x) (bitOf t 1 * 2 ^ s + digitSet 1 s y)
+        (bitOf t 2 * 2 ^ s + digitSet 2 s y)
         ≡ power (signOf t) k *ℤ sign s x y
     go x k y t hk ht ih =
-        let A₁ = places 1 s x in
-        let A₂ = places 2 s x in
-        let P₁ = places 1 s y in
-        let P₂ = places 2 s y in
-        let a₁ : places 1 s x < 2 ^ s = places-lt 1 s x in
-        let a₂ : places 2 s x < 2 ^ s = places-lt 2 s x in
-        let p₁ : places 1 s y < 2 ^ s = places-lt 1 s y in
-        let p₂ : places 2 s y < 2 ^ s = places-lt 2 s y in
+        let A₁ = digitSet 1 s x in
+        let A₂ = digitSet 2 s x in
+        let P₁ = digitSet 1 s y in
+        let P₂ = digitSet 2 s y in
+        let a₁ : digitSet 1 s x < 2 ^ s = places-lt 1 s x in
+        let a₂ : digitSet 2 s x < 2 ^ s = places-lt 2 s x in
+        let p₁ : digitSet 1 s y < 2 ^ s = places-lt 1 s y in
+        let p₂ : digitSet 2 s y < 2 ^ s = places-lt 2 s y in
         let a = or-lt s A₁ A₂ a₁ a₂ in
         let p = or-lt s P₁ P₂ p₁ p₂ in
         let u = bitOr (bitOf k 1) (bitOf k 2) in

@@ -1,5 +1,5 @@
 -- Theorem: the adapted list of the rows each extended by three signs is the rows' adapted list A, then A + 3^i, then A + 2·3^i.
--- And what code needs that works L1, L2, L3 out its own way: a rising list is fixed by what stands in it. Assumes nothing.
+-- And what code needs that works L1, L2, L3 out its own way: a rising list is fixed by what stands in it.
 use mathlib.Core.Path.{_≡_, refl, sym, ap, ap₂, _∙_, subst}
 use mathlib.Core.Logic.{_≢_, _↔_}
 use mathlib.Core.Bool.{Bool, true, false, cond}
@@ -8,9 +8,10 @@ use Prim.Native.Nat.{ℕ, zero, suc, _+_, _*_, _^_, min, _<_, _≤_}
 use native.Mathlib.Omega.{arith}
 use native.Mathlib.Decide.{ℕ-discrete, decLt}
 use lib.Dec.{leb}
-use Rattle.signs.specs.Adapted.{signsOf, lows, adapted, extended}
+use Rattle.signs.specs.Adapted.{signsOf, restrictions, adapted, extended}
 use Rattle.signs.specs.Lists.{times, Below, Rising, upTo, keep, shift}
-use Rattle.signs.proofs.Lists.{shift-holds, times-shift-low, times-nil, times-same, times-other, times-one, times-append, times-shift, times-keep, times-upTo-out, lows-in, lows-holds}
+use Rattle.signs.proofs.Lists.{shift-holds, times-shift-low, times-nil, times-same, times-other, times-one, times-append}
+use Rattle.signs.proofs.Lists.{times-shift, times-keep, times-upTo-out, restrictions-in, restrictions-holds}
 use Rattle.signs.proofs.Size.{Under, below-under, rising-append, rising-once}
 
 -- ---- a rising list is fixed by what stands in it
@@ -89,9 +90,9 @@ keep-rising f (x ∷ l) r = go (f x) (keep-rising f l (r .1))
     go true ih = (λ y h. r .0 y (inside y h), ih)
     go false ih = ih
 
-pub lows-rising : (k i : ℕ) (L : List ℕ) → Rising (lows k i L)
-unfolding lows
-lows-rising k i L = keep-rising (λ q. leb k (signsOf i L q)) (upTo (3 ^ i)) (upTo-rising (3 ^ i))
+pub restrictions-rising : (k i : ℕ) (L : List ℕ) → Rising (restrictions k i L)
+unfolding restrictions
+restrictions-rising k i L = keep-rising (λ q. leb k (signsOf i L q)) (upTo (3 ^ i)) (upTo-rising (3 ^ i))
 
 -- ---- the extended list
 
@@ -99,7 +100,8 @@ lows-rising k i L = keep-rising (λ q. leb k (signsOf i L q)) (upTo (3 ^ i)) (up
 abbrev pub Over : ℕ → List ℕ → List ℕ → Type 0
 Over i L P = (q : ℕ) → q < 3 ^ i → 0 < times q L + times (q + 3 ^ i) L + times (q + 2 * 3 ^ i) L → 0 < times q P
 
-pub times-extended : (i q : ℕ) (P : List ℕ) → times q (extended i P) ≡ times q P + (times q (shift (3 ^ i) P) + times q (shift (2 * 3 ^ i) P))
+pub times-extended : (i q : ℕ) (P : List ℕ) → times q (extended i P)
+    ≡ times q P + (times q (shift (3 ^ i) P) + times q (shift (2 * 3 ^ i) P))
 unfolding extended
 times-extended i q P =
     omega (arith, times-append q P (shift (3 ^ i) P ++ shift (2 * 3 ^ i) P), times-append q (shift (3 ^ i) P) (shift (2 * 3 ^ i) P))
@@ -141,24 +143,36 @@ extended-over i P u q b h = go (decLt 0 (times q P))
 
 -- ---- its adapted list
 
--- each extended pattern stands with all three signs, so P is what is lows
-pub lows-extended : (k i : ℕ) (P : List ℕ) → 1 ≤ k → k ≤ 3 → Rising P → Below (3 ^ i) P → lows k i (extended i P) ≡ P
-lows-extended k i P h₁ h₃ r b = rising-ext (lows k i (extended i P)) P (lows-rising k i (extended i P)) r (λ q. (back q, forth q))
+-- each extended pattern stands with all three signs, so P is what is restrictions
+pub restrictions-extended : (k i : ℕ) (P : List ℕ) → 1 ≤ k → k ≤ 3 → Rising P → Below (3 ^ i) P → restrictions k i (extended i P) ≡ P
+restrictions-extended k i P h₁ h₃ r b =
+    rising-ext (restrictions k i (extended i P)) P (restrictions-rising k i (extended i P)) r (λ q. (back q, forth q))
   where
     u : Under (3 ^ i) P
     u = below-under (3 ^ i) P b
 
-    back : (q : ℕ) → 0 < times q (lows k i (extended i P)) → 0 < times q P
-    back q m = let (c, e) = lows-holds k i (extended i P) q m in extended-over i P u q c (unfold signsOf in omega arith)
+    back : (q : ℕ) → 0 < times q (restrictions k i (extended i P)) → 0 < times q P
+    back q m = let (c, e) = restrictions-holds k i (extended i P) q m in extended-over i P u q c (unfold signsOf in omega arith)
 
-    forth : (q : ℕ) → 0 < times q P → 0 < times q (lows k i (extended i P))
+    forth : (q : ℕ) → 0 < times q P → 0 < times q (restrictions k i (extended i P))
     forth q m =
-        lows-in k i (extended i P) q (u q m)
+        restrictions-in k i (extended i P) q (u q m)
         (unfold signsOf in
-        omega (arith, times-extended i q P, times-extended i (q + 3 ^ i) P, times-shift (3 ^ i) q P, times-extended i (q + 2 * 3 ^ i) P, times-shift (2 * 3 ^ i) q P))
+        omega (
+          arith,
+          times-extended i q P,
+          times-extended i (q + 3 ^ i) P,
+          times-shift (3 ^ i) q P,
+          times-extended i (q + 2 * 3 ^ i) P,
+          times-shift (2 * 3 ^ i) q P,
+        ))
 
 pub adapted-extended : (i : ℕ) (P : List ℕ) → Rising P → Below (3 ^ i) P
     → adapted (suc i) (extended i P) ≡ adapted i P ++ (shift (3 ^ i) (adapted i P) ++ shift (2 * 3 ^ i) (adapted i P))
 unfolding adapted
 adapted-extended i P r b =
-    rw (lows-extended 1 i P (omega arith) (omega arith) r b, lows-extended 2 i P (omega arith) (omega arith) r b, lows-extended 3 i P (omega arith) (omega arith) r b) refl
+    rw (
+      restrictions-extended 1 i P (omega arith) (omega arith) r b,
+      restrictions-extended 2 i P (omega arith) (omega arith) r b,
+      restrictions-extended 3 i P (omega arith) (omega arith) r b,
+    ) refl

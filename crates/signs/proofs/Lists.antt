@@ -1,5 +1,5 @@
--- Laws of lists of numbers: what `times` says of `++`, `shift`, `keep`, `upTo` and `lows`. Membership is `0 < times q l`, so that omega reads it.
--- Assumes nothing.
+-- Laws of lists of numbers: what `times` says of `++`, `shift`, `keep`, `upTo` and `restrictions`. Membership is `0 < times q l`, so that
+-- omega reads it.
 use mathlib.Core.Path.{_≡_, refl, sym, ap, _∙_, subst}
 use mathlib.Core.Logic.{_≢_}
 use mathlib.Core.Bool.{Bool, true, false, cond}
@@ -12,7 +12,7 @@ use lib.Dec.{T, eqb, leb, leb→le, le→leb}
 use lib.ListN.{take}
 use Rattle.integers.proofs.Tests.{is-true, eqb-same, eqb-other, eq-cases, bool-cases, T-of, not-T-of}
 use Rattle.signs.specs.Lists.{times, upTo, keep, shift}
-use Rattle.signs.specs.Adapted.{signsOf, lows}
+use Rattle.signs.specs.Adapted.{signsOf, restrictions}
 
 -- ---- times
 
@@ -97,23 +97,23 @@ times-upTo-in q (suc n) h = go (ℕ-discrete q n) (times-upTo-in q n)
     go (no e) ih =
         omega (arith, times-append q (upTo n) (n ∷ []), ih (omega arith), times-other q n [] e, times-nil q)
 
--- ---- lows
+-- ---- restrictions
 
-pub lows-in : (k i : ℕ) (L : List ℕ) (q : ℕ) → q < 3 ^ i → k ≤ signsOf i L q → 0 < times q (lows k i L)
-unfolding lows
-lows-in k i L q h e =
+pub restrictions-in : (k i : ℕ) (L : List ℕ) (q : ℕ) → q < 3 ^ i → k ≤ signsOf i L q → 0 < times q (restrictions k i L)
+unfolding restrictions
+restrictions-in k i L q h e =
     rw (times-keep, is-true (leb k (signsOf i L q)) (le→leb k (signsOf i L q) e)) (omega (arith, times-upTo-in q (3 ^ i) h))
 
-pub lows-out : (k i : ℕ) (L : List ℕ) (q : ℕ) → q < 3 ^ i → times q (lows k i L) ≡ 0 → signsOf i L q < k
-lows-out k i L q h e = go (decLt (signsOf i L q) k)
+pub restrictions-out : (k i : ℕ) (L : List ℕ) (q : ℕ) → q < 3 ^ i → times q (restrictions k i L) ≡ 0 → signsOf i L q < k
+restrictions-out k i L q h e = go (decLt (signsOf i L q) k)
   where
     go : Dec (signsOf i L q < k) → signsOf i L q < k
     go (yes t) = t
-    go (no t) = absurd (omega (arith, lows-in k i L q h (omega arith)))
+    go (no t) = absurd (omega (arith, restrictions-in k i L q h (omega arith)))
 
-pub lows-holds : (k i : ℕ) (L : List ℕ) (q : ℕ) → 0 < times q (lows k i L) → (q < 3 ^ i) × (k ≤ signsOf i L q)
-unfolding lows
-lows-holds k i L q h = go (decLt q (3 ^ i)) (bool-cases (leb k (signsOf i L q)))
+pub restrictions-holds : (k i : ℕ) (L : List ℕ) (q : ℕ) → 0 < times q (restrictions k i L) → (q < 3 ^ i) × (k ≤ signsOf i L q)
+unfolding restrictions
+restrictions-holds k i L q h = go (decLt q (3 ^ i)) (bool-cases (leb k (signsOf i L q)))
   where
     h′ : 0 < cond (leb k (signsOf i L q)) (times q (upTo (3 ^ i))) 0
     h′ = rw times-keep at h

@@ -1,14 +1,14 @@
--- Theorem: a list with more patterns has an adapted list with more products. Assumes nothing.
+-- Theorem: a list with more patterns has an adapted list with more products.
 use mathlib.Core.Path.{_≡_, refl, sym, ap, _∙_, subst}
 use mathlib.Core.Logic.{_≢_, _⊎_, inl, inr}
 use mathlib.Core.List.{List, [], _∷_, _++_}
 use Prim.Native.Nat.{ℕ, zero, suc, _+_, _*_, _^_, min, _<_, _≤_}
 use native.Mathlib.Omega.{arith}
 use native.Mathlib.Decide.{decLt}
-use Rattle.signs.specs.Adapted.{signsOf, lows, adapted}
+use Rattle.signs.specs.Adapted.{signsOf, restrictions, adapted}
 use Rattle.signs.specs.Lists.{times, shift}
 use Rattle.signs.proofs.Blocks.{adapted-0, adapted-1, adapted-2, adapted-cases, adapted-below}
-use Rattle.signs.proofs.Lists.{times-nil, times-same, times-one, lows-in, lows-holds}
+use Rattle.signs.proofs.Lists.{times-nil, times-same, times-one, restrictions-in, restrictions-holds}
 
 -- what stands in l stands in m
 abbrev pub Within : List ℕ → List ℕ → Type 0
@@ -28,22 +28,23 @@ signsOf-mono i L L′ w q =
       min-mono (times (q + 2 * 3 ^ i) L) (times (q + 2 * 3 ^ i) L′) (w (q + 2 * 3 ^ i)),
     )
 
-pub lows-mono : (k i : ℕ) (L L′ : List ℕ) → Within L L′ → Within (lows k i L) (lows k i L′)
-lows-mono k i L L′ w q h =
-    let m = lows-holds k i L q h in
-    lows-in k i L′ q (m .0) (omega (arith, signsOf-mono i L L′ w q))
+pub restrictions-mono : (k i : ℕ) (L L′ : List ℕ) → Within L L′ → Within (restrictions k i L) (restrictions k i L′)
+restrictions-mono k i L L′ w q h =
+    let m = restrictions-holds k i L q h in
+    restrictions-in k i L′ q (m .0) (omega (arith, signsOf-mono i L L′ w q))
 
 pub adapted-mono : (i : ℕ) (L L′ : List ℕ) → Within L L′ → Within (adapted i L) (adapted i L′)
 unfolding adapted
 adapted-mono zero [] L′ w q h = absurd (omega (arith, times-nil q))
 adapted-mono zero (σ ∷ L) [] w q h = absurd (omega (arith, w σ (omega (arith, times-same σ L)), times-nil σ))
 adapted-mono zero (σ ∷ L) (σ′ ∷ L′) w q h = h
-adapted-mono (suc i) L L′ w q h = go (adapted-cases i q L h) (λ k. adapted-mono i (lows k i L) (lows k i L′) (lows-mono k i L L′ w))
+adapted-mono (suc i) L L′ w q h =
+    go (adapted-cases i q L h) (λ k. adapted-mono i (restrictions k i L) (restrictions k i L′) (restrictions-mono k i L L′ w))
   where
-    go : (0 < times q (adapted i (lows 1 i L)))
-        ⊎ (((a : ℕ) × (q ≡ a + 3 ^ i) × (0 < times a (adapted i (lows 2 i L))))
-        ⊎ ((a : ℕ) × (q ≡ a + 2 * 3 ^ i) × (0 < times a (adapted i (lows 3 i L)))))
-        → ((k : ℕ) → Within (adapted i (lows k i L)) (adapted i (lows k i L′)))
+    go : (0 < times q (adapted i (restrictions 1 i L)))
+        ⊎ (((a : ℕ) × (q ≡ a + 3 ^ i) × (0 < times a (adapted i (restrictions 2 i L))))
+        ⊎ ((a : ℕ) × (q ≡ a + 2 * 3 ^ i) × (0 < times a (adapted i (restrictions 3 i L)))))
+        → ((k : ℕ) → Within (adapted i (restrictions k i L)) (adapted i (restrictions k i L′)))
         → 0 < times q (adapted (suc i) L′)
     go (inl a) ih = adapted-0 i q L′ (ih 1 q a)
     go (inr (inl (a, e, m))) ih = rw e (adapted-1 i a L′ (ih 2 a m))

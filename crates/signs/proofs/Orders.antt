@@ -62,7 +62,8 @@ pub rising-test : (l : List ℕ) → Rising l → isRising l ≡ true
 unfolding isRising Rising
 rising-test [] r = refl
 rising-test (x ∷ []) r = refl
-rising-test (x ∷ y ∷ l) r = both (ltb x y) (isRising (y ∷ l)) (lt-ltb x y (r .0 y (omega (arith, times-same y l)))) (rising-test (y ∷ l) (r .1))
+rising-test (x ∷ y ∷ l) r =
+    both (ltb x y) (isRising (y ∷ l)) (lt-ltb x y (r .0 y (omega (arith, times-same y l)))) (rising-test (y ∷ l) (r .1))
 
 -- ---- a loop over the list: each below a bound
 

@@ -1,4 +1,4 @@
--- The query of a list of patterns is the tally of its counts: query s E α = tally (counts) 0 − tally 0 (counts). Assumes nothing.
+-- The query of a list of patterns is the tally of its counts: query s E α = tally (counts) 0 − tally 0 (counts).
 use mathlib.Core.Path.{_≡_, refl, sym, ap, _∙_, subst}
 use mathlib.Core.Logic.{_≢_, _⊎_, inl, inr}
 use mathlib.Core.List.{List, [], _∷_, _++_}
@@ -84,7 +84,8 @@ module _ (i r : ℕ) (h : r < 3 ^ i) where
   sign-step (suc zero) (suc zero) x z hk hd e =
       rw one-*ℤ (diff-ext i x z (point r) _ none _ (λ q b. omega (arith, at-1 q b)) (λ q b. omega (arith, at-1 q b)) e)
   sign-step (suc zero) (suc (suc zero)) x z hk hd e =
-      rw minus-*ℤ (diff-ext i x (negℤ z) none _ (point r) _ (λ q b. omega (arith, at-2 q b)) (λ q b. omega (arith, at-2 q b)) (diff-neg z e))
+      rw minus-*ℤ (diff-ext i x (negℤ z) none _ (point r) _ (λ q b. omega (arith, at-2 q b)) (λ q b. omega (arith, at-2 q b))
+      (diff-neg z e))
   sign-step (suc (suc zero)) zero x z hk hd e =
       rw zero-*ℤ (diff-ext i x (pos 0) none _ none _ (λ q b. omega (arith, at-0 q b)) (λ q b. omega (arith, at-0 q b)) (diff-none i x))
   sign-step (suc (suc zero)) (suc zero) x z hk hd e =

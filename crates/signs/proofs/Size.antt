@@ -1,5 +1,5 @@
 -- Theorem: the adapted list of a rising list of patterns is rising, its products are below 3^s, and there are as many as patterns.
--- `adapted-below` of `Blocks` is the second part. Assumes nothing.
+-- `adapted-below` of `Blocks` is the second part.
 unfoldable pub use Rattle.signs.specs.Lists.{total}
 use mathlib.Core.Path.{_≡_, refl, sym, ap, _∙_, subst}
 use mathlib.Core.Logic.{_≢_, _⊎_, inl, inr}
@@ -12,10 +12,11 @@ use native.Mathlib.Nat.{add-suc}
 use lib.Dec.{T, leb, leb→le, le→leb}
 use lib.ListN.{length, length-append}
 use Rattle.integers.proofs.Tests.{is-true, is-false}
-use Rattle.signs.specs.Adapted.{signsOf, lows, adapted}
+use Rattle.signs.specs.Adapted.{signsOf, restrictions, adapted}
 use Rattle.signs.specs.Lists.{times, Below, Rising, upTo, keep, shift}
 use Rattle.signs.proofs.Blocks.{adapted-below}
-use Rattle.signs.proofs.Lists.{times-nil, times-same, times-other, times-one, times-append, times-keep, times-upTo-in, times-upTo-out, lows-holds, shift-holds}
+use Rattle.signs.proofs.Lists.{times-nil, times-same, times-other, times-one, times-append, times-keep, times-upTo-in}
+use Rattle.signs.proofs.Lists.{times-upTo-out, restrictions-holds, shift-holds}
 
 -- ---- sums over the numbers below n
 
@@ -88,8 +89,8 @@ below-under n (x ∷ l) b q h = go (ℕ-discrete q x) (below-under n l (b .1) q)
     go (yes e) ih = omega (arith, b .0)
     go (no e) ih = ih (omega (arith, times-other q x l e))
 
-pub lows-under : (k i : ℕ) (L : List ℕ) → Under (3 ^ i) (lows k i L)
-lows-under k i L q h = lows-holds k i L q h .0
+pub restrictions-under : (k i : ℕ) (L : List ℕ) → Under (3 ^ i) (restrictions k i L)
+restrictions-under k i L q h = restrictions-holds k i L q h .0
 
 pub length-shift : (c : ℕ) (l : List ℕ) → length (shift c l) ≡ length l
 unfolding shift
@@ -100,9 +101,9 @@ length-shift c (x ∷ l) = ap suc (length-shift c l)
 atLeast : ℕ → ℕ → ℕ
 atLeast k m = cond (leb k m) 1 0
 
-lows-once : (k i : ℕ) (L : List ℕ) (q : ℕ) → q < 3 ^ i → min 1 (times q (lows k i L)) ≡ atLeast k (signsOf i L q)
-unfolding lows atLeast
-lows-once k i L q h = rw (times-keep, times-upTo-in q (3 ^ i) h) (go (leb k (signsOf i L q)))
+restrictions-once : (k i : ℕ) (L : List ℕ) (q : ℕ) → q < 3 ^ i → min 1 (times q (restrictions k i L)) ≡ atLeast k (signsOf i L q)
+unfolding restrictions atLeast
+restrictions-once k i L q h = rw (times-keep, times-upTo-in q (3 ^ i) h) (go (leb k (signsOf i L q)))
   where
     go : (b : Bool) → min 1 (cond b 1 0) ≡ cond b 1 0
     go true = refl
@@ -126,9 +127,9 @@ adapted-length zero (σ ∷ L) u =
 adapted-length (suc i) L u =
     length-append A₁ (B₂ ++ B₃)
     ∙ ap (λ (x : ℕ). length A₁ + x) (length-append B₂ B₃)
-    ∙ add3 (part 1 (adapted-length i (lows 1 i L) (lows-under 1 i L)))
-    (length-shift (3 ^ i) _ ∙ part 2 (adapted-length i (lows 2 i L) (lows-under 2 i L)))
-    (length-shift (2 * 3 ^ i) _ ∙ part 3 (adapted-length i (lows 3 i L) (lows-under 3 i L)))
+    ∙ add3 (part 1 (adapted-length i (restrictions 1 i L) (restrictions-under 1 i L)))
+    (length-shift (3 ^ i) _ ∙ part 2 (adapted-length i (restrictions 2 i L) (restrictions-under 2 i L)))
+    (length-shift (2 * 3 ^ i) _ ∙ part 3 (adapted-length i (restrictions 3 i L) (restrictions-under 3 i L)))
     ∙ sym sums
     ∙ total-ext _ _ (3 ^ i) (λ q h. three-steps (signsOf i L q) (few q))
     ∙ sym spread
@@ -137,19 +138,19 @@ adapted-length (suc i) L u =
     m q = min 1 (times q L)
 
     A₁ : List ℕ
-    A₁ = adapted i (lows 1 i L)
+    A₁ = adapted i (restrictions 1 i L)
 
     B₂ : List ℕ
-    B₂ = shift (3 ^ i) (adapted i (lows 2 i L))
+    B₂ = shift (3 ^ i) (adapted i (restrictions 2 i L))
 
     B₃ : List ℕ
-    B₃ = shift (2 * 3 ^ i) (adapted i (lows 3 i L))
+    B₃ = shift (2 * 3 ^ i) (adapted i (restrictions 3 i L))
 
     s₁ : (k : ℕ) → ℕ → ℕ
     s₁ k q = atLeast k (signsOf i L q)
 
-    part : (k : ℕ) → {x : ℕ} → x ≡ total (λ q. min 1 (times q (lows k i L))) (3 ^ i) → x ≡ total (s₁ k) (3 ^ i)
-    part k e = e ∙ total-ext _ _ (3 ^ i) (lows-once k i L)
+    part : (k : ℕ) → {x : ℕ} → x ≡ total (λ q. min 1 (times q (restrictions k i L))) (3 ^ i) → x ≡ total (s₁ k) (3 ^ i)
+    part k e = e ∙ total-ext _ _ (3 ^ i) (restrictions-once k i L)
 
     add3 : {a b c x y z : ℕ} → a ≡ x → b ≡ y → c ≡ z → a + (b + c) ≡ x + (y + z)
     add3 e f g = omega arith
@@ -232,24 +233,27 @@ unfolding adapted Rising
 adapted-rising zero [] = tt
 adapted-rising zero (σ ∷ L) = (λ y h. absurd (omega (arith, times-nil y)), tt)
 adapted-rising (suc i) L =
-    rising-append A (B ++ C) (adapted-rising i (lows 1 i L))
-    (rising-append B C (rising-shift (3 ^ i) _ (adapted-rising i (lows 2 i L))) (rising-shift (2 * 3 ^ i) _ (adapted-rising i (lows 3 i L))) BC)
+    rising-append A (B ++ C) (adapted-rising i (restrictions 1 i L))
+    (rising-append B C (rising-shift (3 ^ i) _ (adapted-rising i (restrictions 2 i L)))
+    (rising-shift (2 * 3 ^ i) _ (adapted-rising i (restrictions 3 i L))) BC)
     (λ x y h k. ABC x y h k)
   where
     A : List ℕ
-    A = adapted i (lows 1 i L)
+    A = adapted i (restrictions 1 i L)
 
     B : List ℕ
-    B = shift (3 ^ i) (adapted i (lows 2 i L))
+    B = shift (3 ^ i) (adapted i (restrictions 2 i L))
 
     C : List ℕ
-    C = shift (2 * 3 ^ i) (adapted i (lows 3 i L))
+    C = shift (2 * 3 ^ i) (adapted i (restrictions 3 i L))
 
     inB : (x : ℕ) → 0 < times x B → (3 ^ i ≤ x) × (x < 2 * 3 ^ i)
-    inB x h = let (a, e, m) = shift-holds (3 ^ i) x (adapted i (lows 2 i L)) h in omega (arith, adapted-below i a (lows 2 i L) m)
+    inB x h =
+        let (a, e, m) = shift-holds (3 ^ i) x (adapted i (restrictions 2 i L)) h in
+        omega (arith, adapted-below i a (restrictions 2 i L) m)
 
     inC : (x : ℕ) → 0 < times x C → 2 * 3 ^ i ≤ x
-    inC x h = let (a, e, m) = shift-holds (2 * 3 ^ i) x (adapted i (lows 3 i L)) h in omega arith
+    inC x h = let (a, e, m) = shift-holds (2 * 3 ^ i) x (adapted i (restrictions 3 i L)) h in omega arith
 
     BC : (x y : ℕ) → 0 < times x B → 0 < times y C → x < y
     BC x y h k = omega (arith, inB x h, inC y k)
@@ -258,8 +262,8 @@ adapted-rising (suc i) L =
     ABC x y h k = go (decLt 0 (times y B))
       where
         go : Dec (0 < times y B) → x < y
-        go (yes b) = omega (arith, adapted-below i x (lows 1 i L) h, inB y b)
-        go (no b) = omega (arith, adapted-below i x (lows 1 i L) h, inC y (omega (arith, times-append y B C)))
+        go (yes b) = omega (arith, adapted-below i x (restrictions 1 i L) h, inB y b)
+        go (no b) = omega (arith, adapted-below i x (restrictions 1 i L) h, inC y (omega (arith, times-append y B C)))
 
 -- no product stands twice
 pub rising-once : (l : List ℕ) → Rising l → (q : ℕ) → times q l ≤ 1

@@ -1,4 +1,4 @@
--- Laws of `tally`: it sees only the patterns of its polynomials, and it is additive. Assumes nothing.
+-- Laws of `tally`: it sees only the patterns of its polynomials, and it is additive.
 unfoldable pub use Rattle.signs.specs.Tally.{fold, tally}
 use mathlib.Core.Path.{_≡_, refl, sym, ap, _∙_, subst}
 use mathlib.Core.Logic.{_≢_, _⊎_, inl, inr}

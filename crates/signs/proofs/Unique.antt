@@ -1,5 +1,5 @@
 -- Theorem: a weight that vanishes outside a list of patterns, and whose queries on the list's adapted list are 0, is 0.
--- The weight is a difference p − n of two functions into ℕ, so "is 0" reads p q ≡ n q, and all arithmetic is omega's. Assumes nothing.
+-- The weight is a difference p − n of two functions into ℕ, so "is 0" reads p q ≡ n q, and all arithmetic is omega's.
 use mathlib.Core.Path.{_≡_, refl, sym, ap, _∙_, subst}
 use mathlib.Core.Logic.{_≢_, _⊎_, inl, inr}
 use mathlib.Core.List.{List, [], _∷_, _++_}
@@ -9,8 +9,9 @@ use native.Mathlib.Decide.{decLt}
 use native.Mathlib.Nat.{one-le-pow}
 use lib.Arith.{digits-div, digits-mod}
 use Rattle.signs.specs.Lists.{times, shift}
-use Rattle.signs.specs.Adapted.{signsOf, lows, adapted}
-use Rattle.signs.proofs.Lists.{times-nil, times-same, times-one, times-append, times-shift, times-shift-low, lows-out, lows-holds, shift-holds}
+use Rattle.signs.specs.Adapted.{signsOf, restrictions, adapted}
+use Rattle.signs.proofs.Lists.{times-nil, times-same, times-one, times-append, times-shift, times-shift-low, restrictions-out}
+use Rattle.signs.proofs.Lists.{restrictions-holds, shift-holds}
 use Rattle.signs.proofs.Digits.{top, low, split, digits}
 use Rattle.signs.proofs.Tallies.{fold, tally, tally-at}
 use Rattle.signs.proofs.Blocks.{adapted-0, adapted-1, adapted-2, adapted-cases, adapted-below}
@@ -59,36 +60,41 @@ module _ (i : ℕ) (L : List ℕ) (p n : ℕ → ℕ)
   fold-0 : (q : ℕ) → q < 3 ^ i → p q + p (q + 3 ^ i) + p (q + 2 * 3 ^ i) ≡ n q + n (q + 3 ^ i) + n (q + 2 * 3 ^ i)
   unfolding fold signsOf
   fold-0 =
-      ih (lows 1 i L) (fold i 0 p n) (fold i 0 n p)
+      ih (restrictions 1 i L) (fold i 0 p n) (fold i 0 n p)
       (λ q h e.
-      let m : signsOf i L q < 1 = lows-out 1 i L q h e in
-      omega (arith, out q (omega arith) (omega arith), out (q + 3 ^ i) (omega arith) (omega arith), out (q + 2 * 3 ^ i) (omega arith) (omega arith)))
-      (block 0 (lows 1 i L) (λ α m. at α (α + 0 * 3 ^ i) (omega arith) (adapted-0 i α L m)))
+      let m : signsOf i L q < 1 = restrictions-out 1 i L q h e in
+      omega (
+        arith,
+        out q (omega arith) (omega arith),
+        out (q + 3 ^ i) (omega arith) (omega arith),
+        out (q + 2 * 3 ^ i) (omega arith) (omega arith),
+      ))
+      (block 0 (restrictions 1 i L) (λ α m. at α (α + 0 * 3 ^ i) (omega arith) (adapted-0 i α L m)))
 
   -- so the difference of + and − is 0
   fold-1 : (q : ℕ) → q < 3 ^ i → p (q + 3 ^ i) + n (q + 2 * 3 ^ i) ≡ n (q + 3 ^ i) + p (q + 2 * 3 ^ i)
   unfolding fold signsOf
   fold-1 =
-      ih (lows 2 i L) (fold i 1 p n) (fold i 1 n p)
+      ih (restrictions 2 i L) (fold i 1 p n) (fold i 1 n p)
       (λ q h e.
-      let m : signsOf i L q < 2 = lows-out 2 i L q h e in
+      let m : signsOf i L q < 2 = restrictions-out 2 i L q h e in
       omega (
         arith,
         one-sign (times q L) (times (q + 3 ^ i) L) (times (q + 2 * 3 ^ i) L) _ _ _ _ _ _
             (out q (omega arith)) (out (q + 3 ^ i) (omega arith)) (out (q + 2 * 3 ^ i) (omega arith)) m (fold-0 q h),
       ))
-      (block 1 (lows 2 i L) (λ α m. at (α + 3 ^ i) (α + 1 * 3 ^ i) (omega arith) (adapted-1 i α L m)))
+      (block 1 (restrictions 2 i L) (λ α m. at (α + 3 ^ i) (α + 1 * 3 ^ i) (omega arith) (adapted-1 i α L m)))
 
   -- and the sum of + and − is 0
   fold-2 : (q : ℕ) → q < 3 ^ i → p (q + 3 ^ i) + p (q + 2 * 3 ^ i) ≡ n (q + 3 ^ i) + n (q + 2 * 3 ^ i)
   unfolding fold signsOf
   fold-2 =
-      ih (lows 3 i L) (fold i 2 p n) (fold i 2 n p)
+      ih (restrictions 3 i L) (fold i 2 p n) (fold i 2 n p)
       (λ q h e.
-      let m : signsOf i L q < 3 = lows-out 3 i L q h e in
+      let m : signsOf i L q < 3 = restrictions-out 3 i L q h e in
       two-signs (times q L) (times (q + 3 ^ i) L) (times (q + 2 * 3 ^ i) L) _ _ _ _ _ _
       (out q (omega arith)) (out (q + 3 ^ i) (omega arith)) (out (q + 2 * 3 ^ i) (omega arith)) m (fold-0 q h) (fold-1 q h))
-      (block 2 (lows 3 i L) (λ α m. adapted-2 i α L m))
+      (block 2 (restrictions 3 i L) (λ α m. adapted-2 i α L m))
 
   step : (q : ℕ) → q < 3 ^ suc i → p q ≡ n q
   step q h = go (split i q h)

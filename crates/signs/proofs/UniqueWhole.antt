@@ -1,5 +1,5 @@
--- Theorem: the square matrix of the signs of an adapted list's products on the list's patterns can be inverted (document 01, "Adapted lists").
--- Whole numbers on a rising list of patterns are fixed by their queries on its adapted list. Assumes nothing.
+-- Theorem: the square matrix of the signs of an adapted list's products on the list's patterns can be inverted (document 01, "Adapted
+-- lists"). Whole numbers on a rising list of patterns are fixed by their queries on its adapted list.
 use mathlib.Core.Path.{_≡_, refl, sym, ap, _∙_}
 use mathlib.Core.List.{List, [], _∷_}
 use Prim.Native.Nat.{ℕ, zero, suc, _+_, _^_, _<_}
@@ -28,7 +28,8 @@ same-queries s L c d r b l m e =
     (λ α k. same α k) q (below-under (3 ^ s) L b q h))
   where
     same : (α : ℕ) → 0 < times α (adapted s L)
-        → tally s α (plus (part up L c) (part dn L d)) (plus (part dn L c) (part up L d)) ≡ tally s α (plus (part dn L c) (part up L d)) (plus (part up L c) (part dn L d))
+        → tally s α (plus (part up L c) (part dn L d)) (plus (part dn L c) (part up L d))
+        ≡ tally s α (plus (part dn L c) (part up L d)) (plus (part up L c) (part dn L d))
     same α k =
         let x : Diff (weighted s L d α) (tally s α (part up L c) (part dn L c)) (tally s α (part dn L c) (part up L c)) =
         (rw (e α k) at (weighted-tally s α L c (adapted-below s α L k) b)) in
@@ -65,5 +66,6 @@ zeros-query s α (σ ∷ L) = rw (*ℤ-zero, zeros-query s α L) (+ℤ-idl (pos 
 pub unique-whole : (s : ℕ) (L : List ℕ) (c : List ℤ) → Rising L → Below (3 ^ s) L → length c ≡ length L
     → ((α : ℕ) → 0 < times α (adapted s L) → weighted s L c α ≡ pos 0) → (k : ℕ) → getD c k (pos 0) ≡ pos 0
 unique-whole s L c r b l e k =
-    ap (λ (x : List ℤ). getD x k (pos 0)) (same-queries s L c (zeros (length L)) r b l (zeros-length (length L)) (λ α h. e α h ∙ sym (zeros-query s α L)))
+    ap (λ (x : List ℤ). getD x k (pos 0))
+    (same-queries s L c (zeros (length L)) r b l (zeros-length (length L)) (λ α h. e α h ∙ sym (zeros-query s α L)))
     ∙ zeros-at (length L) k

@@ -1,4 +1,4 @@
--- Whole numbers on a list of patterns, one each, as a weight: `weighted` is the tally of it. Assumes nothing.
+-- Whole numbers on a list of patterns, one each, as a weight: `weighted` is the tally of it.
 use mathlib.Core.Path.{_≡_, refl, ap₂, _∙_}
 use mathlib.Core.Logic.{_≢_}
 use mathlib.Core.List.{List, [], _∷_}
@@ -105,7 +105,8 @@ unfolding weighted part Below
 weighted-tally s α [] c a b = record { by = omega arith }
 weighted-tally s α (σ ∷ L) [] a b = record { by = omega arith }
 weighted-tally s α (σ ∷ L) (w ∷ c) a b =
-    step (sign-times (sign s α σ) w _ _ (up w) (dn w) (sign-sign s α σ) (sign-tally s α σ a (b .0)) (diff-parts w)) (weighted-tally s α L c a (b .1))
+    step (sign-times (sign s α σ) w _ _ (up w) (dn w) (sign-sign s α σ) (sign-tally s α σ a (b .0)) (diff-parts w))
+    (weighted-tally s α L c a (b .1))
   where
     A : ℕ
     A = tally s α (point σ) none

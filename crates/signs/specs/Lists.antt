@@ -1,12 +1,12 @@
--- Lists of numbers. Assumes nothing: these are definitions.
+-- Lists of numbers.
 --
---   times q l  == how often q stands in l
---   Below n l  == each element of l is below n
---   Rising l   == each element of l is smaller than those after it: in particular none stands twice
---   upTo n     == 0, 1, .., n − 1
---   keep f l   == the elements of l that pass the test f, in order
---   shift c l  == l with c added to each
---   total f n  == f 0 + .. + f (n − 1)
+--   times q l               == how often q stands in l
+--   Below n l               == each element of l is below n
+--   Rising l                == each element of l is smaller than those after it: in particular none stands twice
+--   upTo n                  == 0, 1, .., n − 1
+--   keep f l                == the elements of l that pass the test f, in order
+--   shift c l               == l with c added to each
+--   total f n               == f 0 + .. + f (n − 1)
 --   isBelow n l, isRising l == the tests of `Below n l` and `Rising l`
 use mathlib.Core.Bool.{Bool, true, cond, _&&_}
 use mathlib.Core.List.{List, [], _∷_, _++_}

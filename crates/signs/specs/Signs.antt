@@ -7,8 +7,8 @@
 --   sign s α σ       == the sign of the product α on the pattern σ: the product of sign^power over the s polynomials,
 --                       power 0 of any sign being 1
 --   query s E α      == the query of the product α: the sum of its sign over the points' patterns E, repeats counted
---   weighted s L c α == the same where the pattern L[k] counts c[k] times, a whole number
---   sign-digit z     == the digit of z's sign in a pattern number: 0 for 0, 1 for +, 2 for −
+--   weighted s L c α == the query of the product α where the pattern L[k] counts c[k] times, a whole number
+--   signDigit z      == the digit of z's sign in a pattern number: 0 for 0, 1 for +, 2 for −
 use mathlib.Core.List.{List, [], _∷_}
 use Prim.Native.Nat.{ℕ, zero, suc, _/_, _%_, _^_}
 use lib.IntN.{ℤ, pos, negsuc, _+ℤ_, _*ℤ_}
@@ -32,7 +32,7 @@ weighted s [] c α = pos 0
 weighted s (σ ∷ L) [] α = pos 0
 weighted s (σ ∷ L) (w ∷ c) α = (sign s α σ *ℤ w) +ℤ weighted s L c α
 
-unfoldable pub sign-digit : ℤ → ℕ
-sign-digit (pos zero) = 0
-sign-digit (pos (suc n)) = 1
-sign-digit (negsuc n) = 2
+unfoldable pub signDigit : ℤ → ℕ
+signDigit (pos zero) = 0
+signDigit (pos (suc n)) = 1
+signDigit (negsuc n) = 2

@@ -1,5 +1,4 @@
 -- Weighted queries without integers. A weight of a pattern is a difference p − n of two natural numbers, given by two functions.
--- Assumes nothing: these are definitions.
 --
 --   fold i k p n  == the last polynomial, P(i+1), summed out with its sign to the power k: what is left counts at each pattern of P1 .. Pi
 --   tally s α p n == p counted at the patterns where the sign of the product α is +, and n where it is −: the query of the weight p − n is

@@ -1,6 +1,5 @@
 -- How large inner values can be: taking a polynomial off never makes the sum of absolute values larger, and no query is larger than it.
 -- So a solver that looks for numbers whose absolute values add up to at most `limit` may refuse (12) as soon as an inner value passes it.
--- Assumes nothing.
 use mathlib.Core.Path.{subst}
 use Prim.Native.Nat.{ℕ, zero, suc, _+_, _*_, _-_, _^_, _/_, _%_, _≤_}
 use native.Mathlib.Omega.{arith}
@@ -44,11 +43,13 @@ fold-size i k p n =
     omega (
       arith,
       total-thirds i (λ q. dist (p q) (n q)),
-      total-mono (λ q. dist (fold i k p n q) (fold i k n p q)) (λ q. dist (p q) (n q) + dist (p (q + 3 ^ i)) (n (q + 3 ^ i)) + dist (p (q + 2 * 3 ^ i)) (n (q + 2 * 3 ^ i)))
+      total-mono (λ q. dist (fold i k p n q) (fold i k n p q))
+          (λ q. dist (p q) (n q) + dist (p (q + 3 ^ i)) (n (q + 3 ^ i)) + dist (p (q + 2 * 3 ^ i)) (n (q + 2 * 3 ^ i)))
           (3 ^ i) (λ q h. each k q),
     )
   where
-    each : (k q : ℕ) → dist (fold i k p n q) (fold i k n p q) ≤ dist (p q) (n q) + dist (p (q + 3 ^ i)) (n (q + 3 ^ i)) + dist (p (q + 2 * 3 ^ i)) (n (q + 2 * 3 ^ i))
+    each : (k q : ℕ) → dist (fold i k p n q) (fold i k n p q) ≤ dist (p q) (n q) + dist (p (q + 3 ^ i)) (n (q + 3 ^ i))
+        + dist (p (q + 2 * 3 ^ i)) (n (q + 2 * 3 ^ i))
     each k q = by-power k
       where
         d₀ : ℕ
@@ -88,7 +89,8 @@ pub tally-size : (i α : ℕ) (p n : ℕ → ℕ) → dist (tally i α p n) (tal
 tally-size zero α p n = unfold tally size total in omega arith
 tally-size (suc i) α p n = step (tally-size i (α % 3 ^ i) (fold i (α / 3 ^ i) p n) (fold i (α / 3 ^ i) n p))
   where
-    step : dist (tally i (α % 3 ^ i) (fold i (α / 3 ^ i) p n) (fold i (α / 3 ^ i) n p)) (tally i (α % 3 ^ i) (fold i (α / 3 ^ i) n p) (fold i (α / 3 ^ i) p n))
+    step : dist (tally i (α % 3 ^ i) (fold i (α / 3 ^ i) p n) (fold i (α / 3 ^ i) n p))
+        (tally i (α % 3 ^ i) (fold i (α / 3 ^ i) n p) (fold i (α / 3 ^ i) p n))
         ≤ size i (fold i (α / 3 ^ i) p n) (fold i (α / 3 ^ i) n p)
         → dist (tally (suc i) α p n) (tally (suc i) α n p) ≤ size (suc i) p n
     step h = unfold tally in omega (arith, h, fold-size i (α / 3 ^ i) p n)

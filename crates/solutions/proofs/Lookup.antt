@@ -1,4 +1,4 @@
--- Numbers asked on a list of products: `lookup` and `map`. Assumes nothing.
+-- Numbers asked on a list of products: `lookup` and `map`.
 use mathlib.Core.Path.{_≡_, refl, ap₂, _∙_}
 use mathlib.Core.Logic.{_≢_}
 use mathlib.Core.List.{List, [], _∷_, map}

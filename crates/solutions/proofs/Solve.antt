@@ -1,6 +1,6 @@
--- Theorem: `solve` finds the weight wherever there is one. For every list of patterns and all numbers asked on its adapted list, whole numbers
--- on the patterns give them or none do, and taking one polynomial off at each step decides it. A whole number is a difference p − n.
--- Assumes nothing.
+-- Theorem: `solve` finds the weight wherever there is one. For every list of patterns and all numbers asked on its adapted list, whole
+-- numbers on the patterns give them or none do, and taking one polynomial off at each step decides it. A whole number is a difference p −
+-- n.
 use mathlib.Core.Path.{_≡_, refl, sym, ap, _∙_, subst}
 use mathlib.Core.Logic.{_⊎_, inl, inr}
 use mathlib.Core.Bool.{Bool, true, false, cond}
@@ -11,15 +11,16 @@ use native.Mathlib.Omega.{arith}
 use native.Mathlib.Decide.{ℕ-discrete, decLt}
 use lib.Dec.{T, eqb, eqb→eq, ltb, lt→ltb, ltb→lt}
 use Rattle.integers.proofs.Tests.{is-true, is-false, T-of}
-use Rattle.signs.specs.Adapted.{signsOf, lows, adapted}
+use Rattle.signs.specs.Adapted.{signsOf, restrictions, adapted}
 use Rattle.signs.specs.Lists.{times}
 use Rattle.signs.proofs.Blocks.{adapted-0, adapted-1, adapted-2, adapted-cases, adapted-below}
 use Rattle.signs.proofs.Digits.{split}
-use Rattle.signs.proofs.Lists.{times-nil, times-same, times-one, lows-out, lows-holds}
-use Rattle.signs.proofs.Size.{Under, lows-under}
+use Rattle.signs.proofs.Lists.{times-nil, times-same, times-one, restrictions-out, restrictions-holds}
+use Rattle.signs.proofs.Size.{Under, restrictions-under}
 use Rattle.signs.proofs.Tallies.{fold, tally, tally-at, tally-ext, plus, tally-plus}
 use Rattle.signs.proofs.Unique.{unique}
-use Rattle.solutions.specs.Solver.{Weight, _⊕_, _⊖_, half, allEven, queries, block, known-1, known-2, knownDifference, knownSum, glue, bySign, andThen, combine, solve}
+use Rattle.solutions.specs.Solver.{Weight, _⊕_, _⊖_, half, allEven, queries, block, known1, known2, knownDifference, knownSum, glue}
+use Rattle.solutions.specs.Solver.{bySign, andThen, combine, solve}
 
 -- ---- what a solution is
 
@@ -51,8 +52,8 @@ tally-diff i α p n p′ n′ e =
 -- a solution's difference of + and − is the known one where at most one sign stands in the list
 only-1 : (t₀ t₁ t₂ p₀ p₁ p₂ n₀ n₁ n₂ u u′ : ℕ) → (t₀ ≡ 0 → p₀ ≡ n₀) → (t₁ ≡ 0 → p₁ ≡ n₁) → (t₂ ≡ 0 → p₂ ≡ n₂)
     → min 1 t₀ + min 1 t₁ + min 1 t₂ < 2 → p₀ + p₁ + p₂ + u′ ≡ n₀ + n₁ + n₂ + u
-    → p₁ + n₂ + known-1 t₀ t₁ t₂ u′ u ≡ n₁ + p₂ + known-1 t₀ t₁ t₂ u u′
-unfolding known-1
+    → p₁ + n₂ + known1 t₀ t₁ t₂ u′ u ≡ n₁ + p₂ + known1 t₀ t₁ t₂ u u′
+unfolding known1
 only-1 zero zero zero p₀ p₁ p₂ n₀ n₁ n₂ u u′ h₀ h₁ h₂ m e = omega (arith, h₀ refl, h₁ refl, h₂ refl)
 only-1 zero zero (suc t₂) p₀ p₁ p₂ n₀ n₁ n₂ u u′ h₀ h₁ h₂ m e = omega (arith, h₀ refl, h₁ refl)
 only-1 zero (suc t₁) zero p₀ p₁ p₂ n₀ n₁ n₂ u u′ h₀ h₁ h₂ m e = omega (arith, h₀ refl, h₂ refl)
@@ -64,8 +65,8 @@ only-1 (suc t₀) (suc t₁) t₂ p₀ p₁ p₂ n₀ n₁ n₂ u u′ h₀ h₁
 -- and its sum of + and − is the known one where at most two do
 only-2 : (t₀ t₁ t₂ p₀ p₁ p₂ n₀ n₁ n₂ u u′ v v′ : ℕ) → (t₀ ≡ 0 → p₀ ≡ n₀) → (t₁ ≡ 0 → p₁ ≡ n₁) → (t₂ ≡ 0 → p₂ ≡ n₂)
     → min 1 t₀ + min 1 t₁ + min 1 t₂ < 3 → p₀ + p₁ + p₂ + u′ ≡ n₀ + n₁ + n₂ + u → p₁ + n₂ + v′ ≡ n₁ + p₂ + v
-    → p₁ + p₂ + known-2 t₀ t₁ t₂ u′ v′ v ≡ n₁ + n₂ + known-2 t₀ t₁ t₂ u v v′
-unfolding known-2
+    → p₁ + p₂ + known2 t₀ t₁ t₂ u′ v′ v ≡ n₁ + n₂ + known2 t₀ t₁ t₂ u v v′
+unfolding known2
 only-2 zero zero zero p₀ p₁ p₂ n₀ n₁ n₂ u u′ v v′ h₀ h₁ h₂ m e f = omega (arith, h₀ refl, h₁ refl, h₂ refl)
 only-2 zero zero (suc t₂) p₀ p₁ p₂ n₀ n₁ n₂ u u′ v v′ h₀ h₁ h₂ m e f = omega (arith, h₀ refl, h₁ refl)
 only-2 zero (suc t₁) t₂ p₀ p₁ p₂ n₀ n₁ n₂ u u′ v v′ h₀ h₁ h₂ m e f = omega (arith, h₀ refl)
@@ -79,27 +80,27 @@ only-2 (suc t₀) (suc t₁) (suc t₂) p₀ p₁ p₂ n₀ n₁ n₂ u u′ v v
 module _ (u u′ x x′ y y′ : ℕ) where
   -- V and T
   vp : (t₀ t₁ t₂ : ℕ) → ℕ
-  vp t₀ t₁ t₂ = known-1 t₀ t₁ t₂ u u′ + x
+  vp t₀ t₁ t₂ = known1 t₀ t₁ t₂ u u′ + x
 
   vn : (t₀ t₁ t₂ : ℕ) → ℕ
-  vn t₀ t₁ t₂ = known-1 t₀ t₁ t₂ u′ u + x′
+  vn t₀ t₁ t₂ = known1 t₀ t₁ t₂ u′ u + x′
 
   tp : (t₀ t₁ t₂ : ℕ) → ℕ
-  tp t₀ t₁ t₂ = known-2 t₀ t₁ t₂ u (vp t₀ t₁ t₂) (vn t₀ t₁ t₂) + y
+  tp t₀ t₁ t₂ = known2 t₀ t₁ t₂ u (vp t₀ t₁ t₂) (vn t₀ t₁ t₂) + y
 
   tn : (t₀ t₁ t₂ : ℕ) → ℕ
-  tn t₀ t₁ t₂ = known-2 t₀ t₁ t₂ u′ (vn t₀ t₁ t₂) (vp t₀ t₁ t₂) + y′
+  tn t₀ t₁ t₂ = known2 t₀ t₁ t₂ u′ (vn t₀ t₁ t₂) (vp t₀ t₁ t₂) + y′
 
   no-0 : (t₁ t₂ : ℕ) → (min 1 t₁ + min 1 t₂ < 1 → u ≡ u′) → (min 1 t₁ + min 1 t₂ < 2 → x ≡ x′) → y ≡ y′
       → u + tn 0 t₁ t₂ ≡ u′ + tp 0 t₁ t₂
-  unfolding known-1 known-2 vp vn tp tn
+  unfolding known1 known2 vp vn tp tn
   no-0 zero zero h k l = omega (arith, h (omega arith))
   no-0 zero (suc t₂) h k l = omega arith
   no-0 (suc t₁) t₂ h k l = omega arith
 
   no-1 : (t₀ t₂ : ℕ) → (min 1 t₀ + min 1 t₂ < 2 → x ≡ x′) → y ≡ y′
       → tp t₀ 0 t₂ + vp t₀ 0 t₂ ≡ tn t₀ 0 t₂ + vn t₀ 0 t₂
-  unfolding known-1 known-2 vp vn tp tn
+  unfolding known1 known2 vp vn tp tn
   no-1 zero zero k l = omega (arith, k (omega arith))
   no-1 zero (suc t₂) k l = omega (arith, k (omega arith))
   no-1 (suc t₀) zero k l = omega (arith, k (omega arith))
@@ -107,7 +108,7 @@ module _ (u u′ x x′ y y′ : ℕ) where
 
   no-2 : (t₀ t₁ : ℕ) → (min 1 t₀ + min 1 t₁ < 2 → x ≡ x′) → y ≡ y′
       → tp t₀ t₁ 0 + vn t₀ t₁ 0 ≡ tn t₀ t₁ 0 + vp t₀ t₁ 0
-  unfolding known-1 known-2 vp vn tp tn
+  unfolding known1 known2 vp vn tp tn
   no-2 zero zero k l = omega (arith, k (omega arith))
   no-2 zero (suc t₁) k l = omega (arith, k (omega arith))
   no-2 (suc t₀) zero k l = omega (arith, k (omega arith))
@@ -139,11 +140,11 @@ module _ (i : ℕ) (f₀ f₁ f₂ : ℕ → ℕ) (q : ℕ) (h : q < 3 ^ i) wher
 
 -- ---- one polynomial more
 
-pub lows-none : (k i : ℕ) (L : List ℕ) (q : ℕ) → signsOf i L q < k → times q (lows k i L) ≡ 0
-lows-none k i L q h = go (decLt 0 (times q (lows k i L)))
+pub restrictions-none : (k i : ℕ) (L : List ℕ) (q : ℕ) → signsOf i L q < k → times q (restrictions k i L) ≡ 0
+restrictions-none k i L q h = go (decLt 0 (times q (restrictions k i L)))
   where
-    go : Dec (0 < times q (lows k i L)) → times q (lows k i L) ≡ 0
-    go (yes m) = absurd (omega (arith, lows-holds k i L q m))
+    go : Dec (0 < times q (restrictions k i L)) → times q (restrictions k i L) ≡ 0
+    go (yes m) = absurd (omega (arith, restrictions-holds k i L q m))
     go (no m) = omega arith
 
 module _ (i : ℕ) (L : List ℕ) (dp dn : ℕ → ℕ) where
@@ -159,13 +160,13 @@ module _ (i : ℕ) (L : List ℕ) (dp dn : ℕ → ℕ) where
   at : (x y : ℕ) → x ≡ y → 0 < times x (adapted (suc i) L) → 0 < times y (adapted (suc i) L)
   at x y e h = subst (λ (z : ℕ). 0 < times z (adapted (suc i) L)) e h
 
-  in-0 : (α : ℕ) → 0 < times α (adapted i (lows 1 i L)) → 0 < times (α + 0 * 3 ^ i) (adapted (suc i) L)
+  in-0 : (α : ℕ) → 0 < times α (adapted i (restrictions 1 i L)) → 0 < times (α + 0 * 3 ^ i) (adapted (suc i) L)
   in-0 α m = at α (α + 0 * 3 ^ i) (omega arith) (adapted-0 i α L m)
 
-  in-1 : (α : ℕ) → 0 < times α (adapted i (lows 2 i L)) → 0 < times (α + 1 * 3 ^ i) (adapted (suc i) L)
+  in-1 : (α : ℕ) → 0 < times α (adapted i (restrictions 2 i L)) → 0 < times (α + 1 * 3 ^ i) (adapted (suc i) L)
   in-1 α m = at (α + 3 ^ i) (α + 1 * 3 ^ i) (omega arith) (adapted-1 i α L m)
 
-  in-2 : (α : ℕ) → 0 < times α (adapted i (lows 3 i L)) → 0 < times (α + 2 * 3 ^ i) (adapted (suc i) L)
+  in-2 : (α : ℕ) → 0 < times α (adapted i (restrictions 3 i L)) → 0 < times (α + 2 * 3 ^ i) (adapted (suc i) L)
   in-2 α m = adapted-2 i α L m
 
   -- ---- what a solution has to be
@@ -177,22 +178,28 @@ module _ (i : ℕ) (L : List ℕ) (dp dn : ℕ → ℕ) where
         let b : α < 3 ^ i = adapted-below i α L′ m in
         omega (arith, tally-at i k α p n b, tally-at i k α n p b, S .eqs (α + k * 3 ^ i) m′)
 
-    pub down-0 : Solves i (lows 1 i L) (λ α. dp (α + 0 * 3 ^ i)) (λ α. dn (α + 0 * 3 ^ i)) (fold i 0 p n) (fold i 0 n p)
-    down-0 = record { out = λ q h e. zero-out q h e; eqs = λ α m. block-eq 0 (lows 1 i L) α m (in-0 α m) }
+    pub down-0 : Solves i (restrictions 1 i L) (λ α. dp (α + 0 * 3 ^ i)) (λ α. dn (α + 0 * 3 ^ i)) (fold i 0 p n) (fold i 0 n p)
+    down-0 = record { out = λ q h e. zero-out q h e; eqs = λ α m. block-eq 0 (restrictions 1 i L) α m (in-0 α m) }
       where
-        zero-out : (q : ℕ) → q < 3 ^ i → times q (lows 1 i L) ≡ 0 → fold i 0 p n q ≡ fold i 0 n p q
+        zero-out : (q : ℕ) → q < 3 ^ i → times q (restrictions 1 i L) ≡ 0 → fold i 0 p n q ≡ fold i 0 n p q
         zero-out q h e =
-            let m : signsOf i L q < 1 = lows-out 1 i L q h e in
-            unfold fold signsOf in omega (arith, S .out q (omega arith) (omega arith), S .out (q + 3 ^ i) (omega arith) (omega arith), S .out (q + 2 * 3 ^ i) (omega arith) (omega arith))
+            let m : signsOf i L q < 1 = restrictions-out 1 i L q h e in
+            unfold fold signsOf in
+            omega (
+              arith,
+              S .out q (omega arith) (omega arith),
+              S .out (q + 3 ^ i) (omega arith) (omega arith),
+              S .out (q + 2 * 3 ^ i) (omega arith) (omega arith),
+            )
 
   -- ---- with the sums u solved
 
-  module _ (u u′ : ℕ → ℕ) (SU : Solves i (lows 1 i L) (λ α. dp (α + 0 * 3 ^ i)) (λ α. dn (α + 0 * 3 ^ i)) u u′) where
+  module _ (u u′ : ℕ → ℕ) (SU : Solves i (restrictions 1 i L) (λ α. dp (α + 0 * 3 ^ i)) (λ α. dn (α + 0 * 3 ^ i)) u u′) where
     unfoldable pub kp : ℕ → ℕ
-    kp q = known-1 (t₀ q) (t₁ q) (t₂ q) (u q) (u′ q)
+    kp q = known1 (t₀ q) (t₁ q) (t₂ q) (u q) (u′ q)
 
     unfoldable pub kn : ℕ → ℕ
-    kn q = known-1 (t₀ q) (t₁ q) (t₂ q) (u′ q) (u q)
+    kn q = known1 (t₀ q) (t₁ q) (t₂ q) (u′ q) (u q)
 
     unfoldable pub vdp : ℕ → ℕ
     vdp α = dp (α + 1 * 3 ^ i) + tally i α kn kp
@@ -202,26 +209,33 @@ module _ (i : ℕ) (L : List ℕ) (dp dn : ℕ → ℕ) where
 
     module _ (p n : ℕ → ℕ) (S : Solves (suc i) L dp dn p n) where
       pub sum-is : (q : ℕ) → q < 3 ^ i → fold i 0 p n q + u′ q ≡ fold i 0 n p q + u q
-      sum-is = solves-same i (lows 1 i L) _ _ (fold i 0 p n) (fold i 0 n p) u u′ (down-0 p n S) SU
+      sum-is = solves-same i (restrictions 1 i L) _ _ (fold i 0 p n) (fold i 0 n p) u u′ (down-0 p n S) SU
 
-      pub down-1 : Solves i (lows 2 i L) vdp vdn (plus (fold i 1 p n) kn) (plus (fold i 1 n p) kp)
+      pub down-1 : Solves i (restrictions 2 i L) vdp vdn (plus (fold i 1 p n) kn) (plus (fold i 1 n p) kp)
       unfolding kp kn vdp vdn
       down-1 = record { out = λ q h e. one-out q h e; eqs = λ α m. one-eqs α m }
         where
-          one-out : (q : ℕ) → q < 3 ^ i → times q (lows 2 i L) ≡ 0 → plus (fold i 1 p n) kn q ≡ plus (fold i 1 n p) kp q
+          one-out : (q : ℕ) → q < 3 ^ i → times q (restrictions 2 i L) ≡ 0 → plus (fold i 1 p n) kn q ≡ plus (fold i 1 n p) kp q
           one-out q h e =
-              let m : signsOf i L q < 2 = lows-out 2 i L q h e in
+              let m : signsOf i L q < 2 = restrictions-out 2 i L q h e in
               unfold fold signsOf in
-              only-1 (t₀ q) (t₁ q) (t₂ q) _ _ _ _ _ _ (u q) (u′ q) (S .out q (omega arith)) (S .out (q + 3 ^ i) (omega arith)) (S .out (q + 2 * 3 ^ i) (omega arith)) m (sum-is q h)
+              only-1 (t₀ q) (t₁ q) (t₂ q) _ _ _ _ _ _ (u q) (u′ q) (S .out q (omega arith)) (S .out (q + 3 ^ i) (omega arith))
+              (S .out (q + 2 * 3 ^ i) (omega arith)) m (sum-is q h)
 
-          one-eqs : (α : ℕ) → 0 < times α (adapted i (lows 2 i L))
-              → tally i α (plus (fold i 1 p n) kn) (plus (fold i 1 n p) kp) + vdn α ≡ tally i α (plus (fold i 1 n p) kp) (plus (fold i 1 p n) kn) + vdp α
+          one-eqs : (α : ℕ) → 0 < times α (adapted i (restrictions 2 i L))
+              → tally i α (plus (fold i 1 p n) kn) (plus (fold i 1 n p) kp) + vdn α
+              ≡ tally i α (plus (fold i 1 n p) kp) (plus (fold i 1 p n) kn) + vdp α
           one-eqs α m =
-              omega (arith, tally-plus i α (fold i 1 p n) kn (fold i 1 n p) kp, tally-plus i α (fold i 1 n p) kp (fold i 1 p n) kn, block-eq p n S 1 (lows 2 i L) α m (in-1 α m))
+              omega (
+                arith,
+                tally-plus i α (fold i 1 p n) kn (fold i 1 n p) kp,
+                tally-plus i α (fold i 1 n p) kp (fold i 1 p n) kn,
+                block-eq p n S 1 (restrictions 2 i L) α m (in-1 α m),
+              )
 
     -- ---- with the differences x of + and − solved, where two signs or more stand in the list
 
-    module _ (x x′ : ℕ → ℕ) (SV : Solves i (lows 2 i L) vdp vdn x x′) where
+    module _ (x x′ : ℕ → ℕ) (SV : Solves i (restrictions 2 i L) vdp vdn x x′) where
       unfoldable pub Vp : ℕ → ℕ
       Vp q = kp q + x q
 
@@ -229,10 +243,10 @@ module _ (i : ℕ) (L : List ℕ) (dp dn : ℕ → ℕ) where
       Vn q = kn q + x′ q
 
       unfoldable pub lp : ℕ → ℕ
-      lp q = known-2 (t₀ q) (t₁ q) (t₂ q) (u q) (Vp q) (Vn q)
+      lp q = known2 (t₀ q) (t₁ q) (t₂ q) (u q) (Vp q) (Vn q)
 
       unfoldable pub ln : ℕ → ℕ
-      ln q = known-2 (t₀ q) (t₁ q) (t₂ q) (u′ q) (Vn q) (Vp q)
+      ln q = known2 (t₀ q) (t₁ q) (t₂ q) (u′ q) (Vn q) (Vp q)
 
       unfoldable pub tdp : ℕ → ℕ
       tdp α = dp (α + 2 * 3 ^ i) + tally i α ln lp
@@ -244,27 +258,38 @@ module _ (i : ℕ) (L : List ℕ) (dp dn : ℕ → ℕ) where
         pub difference-is : (q : ℕ) → q < 3 ^ i → fold i 1 p n q + Vn q ≡ fold i 1 n p q + Vp q
         unfolding Vp Vn
         difference-is q h =
-            omega (arith, solves-same i (lows 2 i L) vdp vdn (plus (fold i 1 p n) kn) (plus (fold i 1 n p) kp) x x′ (down-1 p n S) SV q h)
+            omega (
+              arith,
+              solves-same i (restrictions 2 i L) vdp vdn (plus (fold i 1 p n) kn) (plus (fold i 1 n p) kp) x x′
+                  (down-1 p n S) SV q h,
+            )
 
-        pub down-2 : Solves i (lows 3 i L) tdp tdn (plus (fold i 2 p n) ln) (plus (fold i 2 n p) lp)
+        pub down-2 : Solves i (restrictions 3 i L) tdp tdn (plus (fold i 2 p n) ln) (plus (fold i 2 n p) lp)
         unfolding lp ln tdp tdn
         down-2 = record { out = λ q h e. two-out q h e; eqs = λ α m. two-eqs α m }
           where
-            two-out : (q : ℕ) → q < 3 ^ i → times q (lows 3 i L) ≡ 0 → plus (fold i 2 p n) ln q ≡ plus (fold i 2 n p) lp q
+            two-out : (q : ℕ) → q < 3 ^ i → times q (restrictions 3 i L) ≡ 0 → plus (fold i 2 p n) ln q ≡ plus (fold i 2 n p) lp q
             two-out q h e =
-                let m : signsOf i L q < 3 = lows-out 3 i L q h e in
+                let m : signsOf i L q < 3 = restrictions-out 3 i L q h e in
                 unfold fold signsOf in
-                only-2 (t₀ q) (t₁ q) (t₂ q) _ _ _ _ _ _ (u q) (u′ q) (Vp q) (Vn q) (S .out q (omega arith)) (S .out (q + 3 ^ i) (omega arith)) (S .out (q + 2 * 3 ^ i) (omega arith)) m
+                only-2 (t₀ q) (t₁ q) (t₂ q) _ _ _ _ _ _ (u q) (u′ q) (Vp q) (Vn q) (S .out q (omega arith))
+                (S .out (q + 3 ^ i) (omega arith)) (S .out (q + 2 * 3 ^ i) (omega arith)) m
                 (sum-is p n S q h) (difference-is q h)
 
-            two-eqs : (α : ℕ) → 0 < times α (adapted i (lows 3 i L))
-                → tally i α (plus (fold i 2 p n) ln) (plus (fold i 2 n p) lp) + tdn α ≡ tally i α (plus (fold i 2 n p) lp) (plus (fold i 2 p n) ln) + tdp α
+            two-eqs : (α : ℕ) → 0 < times α (adapted i (restrictions 3 i L))
+                → tally i α (plus (fold i 2 p n) ln) (plus (fold i 2 n p) lp) + tdn α
+                ≡ tally i α (plus (fold i 2 n p) lp) (plus (fold i 2 p n) ln) + tdp α
             two-eqs α m =
-                omega (arith, tally-plus i α (fold i 2 p n) ln (fold i 2 n p) lp, tally-plus i α (fold i 2 n p) lp (fold i 2 p n) ln, block-eq p n S 2 (lows 3 i L) α m (in-2 α m))
+                omega (
+                  arith,
+                  tally-plus i α (fold i 2 p n) ln (fold i 2 n p) lp,
+                  tally-plus i α (fold i 2 n p) lp (fold i 2 p n) ln,
+                  block-eq p n S 2 (restrictions 3 i L) α m (in-2 α m),
+                )
 
       -- ---- with the sums y of + and − solved, where all three signs do
 
-      module _ (y y′ : ℕ → ℕ) (ST : Solves i (lows 3 i L) tdp tdn y y′) where
+      module _ (y y′ : ℕ → ℕ) (ST : Solves i (restrictions 3 i L) tdp tdn y y′) where
         unfoldable pub Tp : ℕ → ℕ
         Tp q = lp q + y q
 
@@ -280,7 +305,7 @@ module _ (i : ℕ) (L : List ℕ) (dp dn : ℕ → ℕ) where
         unfolding doubled Tp Tn fold
         even p n S q h =
             let a : plus (fold i 2 p n) ln q + y′ q ≡ plus (fold i 2 n p) lp q + y q =
-            solves-same i (lows 3 i L) tdp tdn (plus (fold i 2 p n) ln) (plus (fold i 2 n p) lp) y y′ (down-2 p n S) ST q h in
+            solves-same i (restrictions 3 i L) tdp tdn (plus (fold i 2 p n) ln) (plus (fold i 2 n p) lp) y y′ (down-2 p n S) ST q h in
             let b : fold i 1 p n q + Vn q ≡ fold i 1 n p q + Vp q = difference-is p n S q h in
             parity (p (q + 3 ^ i)) (p (q + 2 * 3 ^ i)) (n (q + 3 ^ i)) (n (q + 2 * 3 ^ i)) (lp q + y q) (ln q + y′ q) (Vp q) (Vn q)
             (omega arith) (omega arith)
@@ -316,31 +341,35 @@ module _ (i : ℕ) (L : List ℕ) (dp dn : ℕ → ℕ) where
 
         -- no weight outside the list
         few-1 : (q : ℕ) → q < 3 ^ i → signsOf i L q < 1 → u q ≡ u′ q
-        few-1 q h m = SU .out q h (lows-none 1 i L q m)
+        few-1 q h m = SU .out q h (restrictions-none 1 i L q m)
 
         few-2 : (q : ℕ) → q < 3 ^ i → signsOf i L q < 2 → x q ≡ x′ q
-        few-2 q h m = SV .out q h (lows-none 2 i L q m)
+        few-2 q h m = SV .out q h (restrictions-none 2 i L q m)
 
         few-3 : (q : ℕ) → q < 3 ^ i → signsOf i L q < 3 → y q ≡ y′ q
-        few-3 q h m = ST .out q h (lows-none 3 i L q m)
+        few-3 q h m = ST .out q h (restrictions-none 3 i L q m)
 
         pub balance-0 : (q : ℕ) → q < 3 ^ i → t₀ q ≡ 0 → u q + Tn q ≡ u′ q + Tp q
         unfolding Tp Tn lp ln Vp Vn kp kn tp tn vp vn signsOf
         balance-0 q h e =
-            subst (λ (z : ℕ). u q + tn (u q) (u′ q) (x q) (x′ q) (y q) (y′ q) z (t₁ q) (t₂ q) ≡ u′ q + tp (u q) (u′ q) (x q) (x′ q) (y q) (y′ q) z (t₁ q) (t₂ q)) (sym e)
-            (no-0 (u q) (u′ q) (x q) (x′ q) (y q) (y′ q) (t₁ q) (t₂ q) (λ m. few-1 q h (omega arith)) (λ m. few-2 q h (omega arith)) (few-3 q h (omega arith)))
+            subst (λ (z : ℕ). u q + tn (u q) (u′ q) (x q) (x′ q) (y q) (y′ q) z (t₁ q) (t₂ q)
+            ≡ u′ q + tp (u q) (u′ q) (x q) (x′ q) (y q) (y′ q) z (t₁ q) (t₂ q)) (sym e)
+            (no-0 (u q) (u′ q) (x q) (x′ q) (y q) (y′ q) (t₁ q) (t₂ q) (λ m. few-1 q h (omega arith)) (λ m. few-2 q h (omega arith))
+            (few-3 q h (omega arith)))
 
         pub balance-1 : (q : ℕ) → q < 3 ^ i → t₁ q ≡ 0 → Tp q + Vp q ≡ Tn q + Vn q
         unfolding Tp Tn lp ln Vp Vn kp kn tp tn vp vn signsOf
         balance-1 q h e =
-            subst (λ (z : ℕ). tp (u q) (u′ q) (x q) (x′ q) (y q) (y′ q) (t₀ q) z (t₂ q) + vp (u q) (u′ q) (x q) (x′ q) (y q) (y′ q) (t₀ q) z (t₂ q)
+            subst (λ (z : ℕ). tp (u q) (u′ q) (x q) (x′ q) (y q) (y′ q) (t₀ q) z (t₂ q)
+            + vp (u q) (u′ q) (x q) (x′ q) (y q) (y′ q) (t₀ q) z (t₂ q)
             ≡ tn (u q) (u′ q) (x q) (x′ q) (y q) (y′ q) (t₀ q) z (t₂ q) + vn (u q) (u′ q) (x q) (x′ q) (y q) (y′ q) (t₀ q) z (t₂ q)) (sym e)
             (no-1 (u q) (u′ q) (x q) (x′ q) (y q) (y′ q) (t₀ q) (t₂ q) (λ m. few-2 q h (omega arith)) (few-3 q h (omega arith)))
 
         pub balance-2 : (q : ℕ) → q < 3 ^ i → t₂ q ≡ 0 → Tp q + Vn q ≡ Tn q + Vp q
         unfolding Tp Tn lp ln Vp Vn kp kn tp tn vp vn signsOf
         balance-2 q h e =
-            subst (λ (z : ℕ). tp (u q) (u′ q) (x q) (x′ q) (y q) (y′ q) (t₀ q) (t₁ q) z + vn (u q) (u′ q) (x q) (x′ q) (y q) (y′ q) (t₀ q) (t₁ q) z
+            subst (λ (z : ℕ). tp (u q) (u′ q) (x q) (x′ q) (y q) (y′ q) (t₀ q) (t₁ q) z
+            + vn (u q) (u′ q) (x q) (x′ q) (y q) (y′ q) (t₀ q) (t₁ q) z
             ≡ tn (u q) (u′ q) (x q) (x′ q) (y q) (y′ q) (t₀ q) (t₁ q) z + vp (u q) (u′ q) (x q) (x′ q) (y q) (y′ q) (t₀ q) (t₁ q) z) (sym e)
             (no-2 (u q) (u′ q) (x q) (x′ q) (y q) (y′ q) (t₀ q) (t₁ q) (λ m. few-2 q h (omega arith)) (few-3 q h (omega arith)))
 
@@ -371,26 +400,48 @@ module _ (i : ℕ) (L : List ℕ) (dp dn : ℕ → ℕ) where
           fold-1-is : (q : ℕ) → q < 3 ^ i → fold i 1 p⁺ n⁺ q + Vn q ≡ fold i 1 n⁺ p⁺ q + Vp q
           unfolding fold p⁺ n⁺
           fold-1-is q h =
-              omega (arith, glue-1 i w₀ w₁ w₂ q h, glue-2 i w₀ w₁ w₂ q h, glue-1 i w₀′ w₁′ w₂′ q h, glue-2 i w₀′ w₁′ w₂′ q h, halves-1 q h, halves-2 q h)
+              omega (
+                arith,
+                glue-1 i w₀ w₁ w₂ q h,
+                glue-2 i w₀ w₁ w₂ q h,
+                glue-1 i w₀′ w₁′ w₂′ q h,
+                glue-2 i w₀′ w₁′ w₂′ q h,
+                halves-1 q h,
+                halves-2 q h,
+              )
 
           fold-2-is : (q : ℕ) → q < 3 ^ i → fold i 2 p⁺ n⁺ q + Tn q ≡ fold i 2 n⁺ p⁺ q + Tp q
           unfolding fold p⁺ n⁺
           fold-2-is q h =
-              omega (arith, glue-1 i w₀ w₁ w₂ q h, glue-2 i w₀ w₁ w₂ q h, glue-1 i w₀′ w₁′ w₂′ q h, glue-2 i w₀′ w₁′ w₂′ q h, halves-1 q h, halves-2 q h)
+              omega (
+                arith,
+                glue-1 i w₀ w₁ w₂ q h,
+                glue-2 i w₀ w₁ w₂ q h,
+                glue-1 i w₀′ w₁′ w₂′ q h,
+                glue-2 i w₀′ w₁′ w₂′ q h,
+                halves-1 q h,
+                halves-2 q h,
+              )
 
           -- the queries of each block
           abbrev Meets : ℕ → Type 0
           Meets x = tally (suc i) x p⁺ n⁺ + dn x ≡ tally (suc i) x n⁺ p⁺ + dp x
 
-          right-0 : (α : ℕ) → 0 < times α (adapted i (lows 1 i L)) → Meets (α + 0 * 3 ^ i)
+          right-0 : (α : ℕ) → 0 < times α (adapted i (restrictions 1 i L)) → Meets (α + 0 * 3 ^ i)
           right-0 α m =
-              let b : α < 3 ^ i = adapted-below i α (lows 1 i L) m in
-              omega (arith, tally-at i 0 α p⁺ n⁺ b, tally-at i 0 α n⁺ p⁺ b, tally-diff i α (fold i 0 p⁺ n⁺) (fold i 0 n⁺ p⁺) u u′ fold-0-is, SU .eqs α m)
+              let b : α < 3 ^ i = adapted-below i α (restrictions 1 i L) m in
+              omega (
+                arith,
+                tally-at i 0 α p⁺ n⁺ b,
+                tally-at i 0 α n⁺ p⁺ b,
+                tally-diff i α (fold i 0 p⁺ n⁺) (fold i 0 n⁺ p⁺) u u′ fold-0-is,
+                SU .eqs α m,
+              )
 
-          right-1 : (α : ℕ) → 0 < times α (adapted i (lows 2 i L)) → Meets (α + 1 * 3 ^ i)
+          right-1 : (α : ℕ) → 0 < times α (adapted i (restrictions 2 i L)) → Meets (α + 1 * 3 ^ i)
           unfolding Vp Vn vdp vdn
           right-1 α m =
-              let b : α < 3 ^ i = adapted-below i α (lows 2 i L) m in
+              let b : α < 3 ^ i = adapted-below i α (restrictions 2 i L) m in
               omega (
                 arith,
                 tally-at i 1 α p⁺ n⁺ b,
@@ -401,10 +452,10 @@ module _ (i : ℕ) (L : List ℕ) (dp dn : ℕ → ℕ) where
                 SV .eqs α m,
               )
 
-          right-2 : (α : ℕ) → 0 < times α (adapted i (lows 3 i L)) → Meets (α + 2 * 3 ^ i)
+          right-2 : (α : ℕ) → 0 < times α (adapted i (restrictions 3 i L)) → Meets (α + 2 * 3 ^ i)
           unfolding Tp Tn tdp tdn
           right-2 α m =
-              let b : α < 3 ^ i = adapted-below i α (lows 3 i L) m in
+              let b : α < 3 ^ i = adapted-below i α (restrictions 3 i L) m in
               omega (
                 arith,
                 tally-at i 2 α p⁺ n⁺ b,
@@ -418,9 +469,9 @@ module _ (i : ℕ) (L : List ℕ) (dp dn : ℕ → ℕ) where
           right : (α : ℕ) → 0 < times α (adapted (suc i) L) → Meets α
           right α m = go (adapted-cases i α L m)
             where
-              go : (0 < times α (adapted i (lows 1 i L)))
-                  ⊎ (((a : ℕ) × (α ≡ a + 3 ^ i) × (0 < times a (adapted i (lows 2 i L))))
-                  ⊎ ((a : ℕ) × (α ≡ a + 2 * 3 ^ i) × (0 < times a (adapted i (lows 3 i L)))))
+              go : (0 < times α (adapted i (restrictions 1 i L)))
+                  ⊎ (((a : ℕ) × (α ≡ a + 3 ^ i) × (0 < times a (adapted i (restrictions 2 i L))))
+                  ⊎ ((a : ℕ) × (α ≡ a + 2 * 3 ^ i) × (0 < times a (adapted i (restrictions 3 i L)))))
                   → Meets α
               go (inl k) = subst Meets (omega arith) (right-0 α k)
               go (inr (inl (a, e, k))) = subst Meets (omega arith) (right-1 a k)
@@ -500,9 +551,11 @@ module _ (i : ℕ) (L : List ℕ) (d : Weight) where
   abbrev T⁺ : Weight → Weight → Weight → Weight
   T⁺ u x y = knownSum i L u (V⁺ u x) ⊕ y
 
-  combine-right : (u : Weight) → Right i (lows 1 i L) (block i 0 d) (some u) → (x : Weight) → Right i (lows 2 i L) (D₁ u) (some x)
-      → (y : Weight) → Right i (lows 3 i L) (D₂ u x) (some y) → Right (suc i) L d (combine i u (V⁺ u x) (T⁺ u x y))
-  unfolding combine block queries knownDifference knownSum _⊕_ _⊖_ half bySign kp kn vdp vdn Vp Vn lp ln tdp tdn Tp Tn doubled w₀ w₀′ w₁ w₁′ w₂ w₂′ p⁺ n⁺
+  combine-right : (u : Weight) → Right i (restrictions 1 i L) (block i 0 d) (some u) → (x : Weight)
+      → Right i (restrictions 2 i L) (D₁ u) (some x)
+      → (y : Weight) → Right i (restrictions 3 i L) (D₂ u x) (some y) → Right (suc i) L d (combine i u (V⁺ u x) (T⁺ u x y))
+  unfolding combine block queries knownDifference knownSum _⊕_ _⊖_ half bySign kp kn vdp vdn Vp Vn lp ln tdp tdn Tp Tn doubled w₀ w₀′ w₁ w₁′
+      w₂ w₂′ p⁺ n⁺
   combine-right u SU x SV y ST = go (allEven (T⁺ u x y ⊕ V⁺ u x) (3 ^ i)) refl
     where
       go : (b : Bool) → allEven (T⁺ u x y ⊕ V⁺ u x) (3 ^ i) ≡ b
@@ -514,24 +567,29 @@ module _ (i : ℕ) (L : List ℕ) (d : Weight) where
           let (q, h, odd) = allEven-no (T⁺ u x y ⊕ V⁺ u x) (3 ^ i) t in
           omega (arith, even i L (d .up) (d .dn) (u .up) (u .dn) SU (x .up) (x .dn) SV (y .up) (y .dn) ST p n S q h)
 
-  third-right : (u : Weight) → Right i (lows 1 i L) (block i 0 d) (some u) → (x : Weight) → Right i (lows 2 i L) (D₁ u) (some x)
-      → (o : Option Weight) → Right i (lows 3 i L) (D₂ u x) o → Right (suc i) L d (andThen o λ y. combine i u (V⁺ u x) (T⁺ u x y))
+  third-right : (u : Weight) → Right i (restrictions 1 i L) (block i 0 d) (some u) → (x : Weight)
+      → Right i (restrictions 2 i L) (D₁ u) (some x)
+      → (o : Option Weight) → Right i (restrictions 3 i L) (D₂ u x) o → Right (suc i) L d (andThen o λ y. combine i u (V⁺ u x) (T⁺ u x y))
   unfolding block queries knownDifference knownSum _⊕_ _⊖_ kp kn vdp vdn Vp Vn lp ln tdp tdn
   third-right u SU x SV none r = λ p n S. r _ _ (down-2 i L (d .up) (d .dn) (u .up) (u .dn) SU (x .up) (x .dn) SV p n S)
   third-right u SU x SV (some y) r = combine-right u SU x SV y r
 
   second-right : ((L′ : List ℕ) (e : Weight) → Under (3 ^ i) L′ → Right i L′ e (solve i L′ e))
-      → (u : Weight) → Right i (lows 1 i L) (block i 0 d) (some u) → (o : Option Weight) → Right i (lows 2 i L) (D₁ u) o
-      → Right (suc i) L d (andThen o λ x. andThen (solve i (lows 3 i L) (D₂ u x)) λ y. combine i u (V⁺ u x) (T⁺ u x y))
+      → (u : Weight) → Right i (restrictions 1 i L) (block i 0 d) (some u) → (o : Option Weight) → Right i (restrictions 2 i L) (D₁ u) o
+      → Right (suc i) L d (andThen o λ x. andThen (solve i (restrictions 3 i L) (D₂ u x)) λ y. combine i u (V⁺ u x) (T⁺ u x y))
   unfolding block queries knownDifference _⊖_ kp kn vdp vdn
   second-right ih u SU none r = λ p n S. r _ _ (down-1 i L (d .up) (d .dn) (u .up) (u .dn) SU p n S)
-  second-right ih u SU (some x) r = third-right u SU x r (solve i (lows 3 i L) (D₂ u x)) (ih (lows 3 i L) (D₂ u x) (lows-under 3 i L))
+  second-right ih u SU (some x) r =
+      third-right u SU x r (solve i (restrictions 3 i L) (D₂ u x)) (ih (restrictions 3 i L) (D₂ u x) (restrictions-under 3 i L))
 
-  first-right : ((L′ : List ℕ) (e : Weight) → Under (3 ^ i) L′ → Right i L′ e (solve i L′ e)) → (o : Option Weight) → Right i (lows 1 i L) (block i 0 d) o
-      → Right (suc i) L d (andThen o λ u. andThen (solve i (lows 2 i L) (D₁ u)) λ x. andThen (solve i (lows 3 i L) (D₂ u x)) λ y. combine i u (V⁺ u x) (T⁺ u x y))
+  first-right : ((L′ : List ℕ) (e : Weight) → Under (3 ^ i) L′ → Right i L′ e (solve i L′ e)) → (o : Option Weight)
+      → Right i (restrictions 1 i L) (block i 0 d) o
+      → Right (suc i) L d (andThen o λ u. andThen (solve i (restrictions 2 i L) (D₁ u)) λ x.
+      andThen (solve i (restrictions 3 i L) (D₂ u x)) λ y. combine i u (V⁺ u x) (T⁺ u x y))
   unfolding block
   first-right ih none r = λ p n S. r _ _ (down-0 i L (d .up) (d .dn) p n S)
-  first-right ih (some u) r = second-right ih u r (solve i (lows 2 i L) (D₁ u)) (ih (lows 2 i L) (D₁ u) (lows-under 2 i L))
+  first-right ih (some u) r =
+      second-right ih u r (solve i (restrictions 2 i L) (D₁ u)) (ih (restrictions 2 i L) (D₁ u) (restrictions-under 2 i L))
 
 -- the solver gives the solution wherever there is one
 pub solve-right : (s : ℕ) (L : List ℕ) (d : Weight) → Under (3 ^ s) L → Right s L d (solve s L d)
@@ -549,4 +607,5 @@ solve-right zero (σ ∷ L) d u =
         let e′ : times σ (σ ∷ L) ≡ 0 = (rw f at e) in
         omega (arith, times-same σ L)
 solve-right (suc i) L d u =
-    first-right i L d (λ L′ e v. solve-right i L′ e v) (solve i (lows 1 i L) (block i 0 d)) (solve-right i (lows 1 i L) (block i 0 d) (lows-under 1 i L))
+    first-right i L d (λ L′ e v. solve-right i L′ e v) (solve i (restrictions 1 i L) (block i 0 d))
+    (solve-right i (restrictions 1 i L) (block i 0 d) (restrictions-under 1 i L))

@@ -1,5 +1,5 @@
--- THE SOLVER: `solverOf` gives the whole numbers that document 01 asks for wherever there are such, and `none` exactly where there are none.
--- Assumes nothing.
+-- THE SOLVER: `solverOf` gives the whole numbers that document 01 asks for wherever there are such, and `none` exactly where there are
+-- none.
 use mathlib.Core.Path.{_≡_, refl, sym, ap, _∙_, subst}
 use mathlib.Core.Logic.{_↔_}
 use mathlib.Core.Bool.{Bool, true, false, cond}
@@ -37,7 +37,8 @@ values-length w [] = refl
 values-length w (q ∷ L) = ap suc (values-length w L)
 
 -- as a weight again: what the weight has there, as often as the pattern stands in the list
-values-part : (w : Weight) (L : List ℕ) (q : ℕ) → part up L (values w L) q + times q L * w .dn q ≡ part dn L (values w L) q + times q L * w .up q
+values-part : (w : Weight) (L : List ℕ) (q : ℕ) → part up L (values w L) q + times q L * w .dn q
+    ≡ part dn L (values w L) q + times q L * w .up q
 unfolding values
 values-part w [] q = rw (times-nil q, part-out up [] [] q (times-nil q), part-out dn [] [] q (times-nil q)) (omega arith)
 values-part w (σ ∷ L) q = go (ℕ-discrete q σ) (values-part w L q)
@@ -108,7 +109,8 @@ module _ (s : ℕ) (L : List ℕ) (ds : List ℤ) (P : Posed s L ds) where
       )))
 
   -- numbers that give ds are the only ones
-  give-same : (ws vs : List ℤ) → length ws ≡ length L → length vs ≡ length L → map (weighted s L ws) A ≡ ds → map (weighted s L vs) A ≡ ds → ws ≡ vs
+  give-same : (ws vs : List ℤ) → length ws ≡ length L → length vs ≡ length L → map (weighted s L ws) A ≡ ds → map (weighted s L vs) A ≡ ds
+      → ws ≡ vs
   give-same ws vs l m e f =
       same-queries s L ws vs (P .rising) (P .below) l m
       (λ α h. sym (lookup-map (weighted s L ws) A α h) ∙ ap (lookup α A) (e ∙ sym f) ∙ lookup-map (weighted s L vs) A α h)
@@ -117,7 +119,8 @@ module _ (s : ℕ) (L : List ℕ) (ds : List ℤ) (P : Posed s L ds) where
   solution-same ws vs S S′ = give-same ws vs (S .one-each) (S′ .one-each) (S .give) (S′ .give)
 
   -- what the result means
-  from-result : (o : Option Weight) → Right s L D o → (ws : List ℤ) → andThen o (λ w. withinLimit (values w L)) ≡ some ws → Solution s L ds ws
+  from-result : (o : Option Weight) → Right s L D o → (ws : List ℤ) → andThen o (λ w. withinLimit (values w L)) ≡ some ws
+      → Solution s L ds ws
   unfolding withinLimit
   from-result none r ws e = let x : _≡_ {A = ℕ} 0 1 = cc in absurd (omega arith)
   from-result (some w) r ws e = go (leb (sumAbs (values w L)) limit) refl e
@@ -132,7 +135,10 @@ module _ (s : ℕ) (L : List ℕ) (ds : List ℤ) (P : Posed s L ds) where
   unfolding withinLimit
   to-result none r ws S = absurd (r _ _ (solves-of ws (S .give)))
   to-result (some w) r ws S =
-      rw (give-same (values w L) ws (values-length w L) (S .one-each) (give-of w r) (S .give), is-true (leb (sumAbs ws) limit) (le→leb (sumAbs ws) limit (S .small)))
+      rw (
+        give-same (values w L) ws (values-length w L) (S .one-each) (give-of w r) (S .give),
+        is-true (leb (sumAbs ws) limit) (le→leb (sumAbs ws) limit (S .small)),
+      )
       refl
 
   abbrev right : Right s L D (solve s L D)

@@ -1,7 +1,6 @@
 -- The solver as a definition that computes: whole numbers on a list of patterns whose queries on its adapted list are given numbers, worked
 -- out by taking one polynomial off at each step, with exact halving. A whole number is a difference of two natural numbers, so nothing
 -- overflows and nothing is refused because an inner value grew. That it is a solver as document 01 asks is `solver-right` of proofs/.
--- Assumes nothing: these are definitions.
 --
 --   Weight                == a whole number at each pattern, or at each product: up − dn
 --   v ⊕ w, v ⊖ w, half w  == sum, difference and half, which is exact where the number is even
@@ -11,7 +10,8 @@
 --   knownDifference i L u == + less − of P(i+1) at each pattern of P1 .. Pi where at most one sign stands in L; u sums all three signs
 --   knownSum i L u v      == + and − of P(i+1) where at most two do; v is + less −
 --   bySign i w₀ w₁ w₂     == one weight of P1 .. P(i+1) from three of P1 .. Pi, by the sign of P(i+1)
---   combine i u v t       == the weight with u the sum of the three signs, v + less −, t + and −: + is (t + v) / 2, − is (t − v) / 2, 0 is u − t
+--   combine i u v t       == the weight with u the sum of the three signs, v + less −, t + and −: + is (t + v) / 2, − is (t − v) / 2, 0 is
+--                            u − t
 --   solve s L d           == the weight on the patterns L whose query of each product α of the adapted list is d at α, if there is one
 --   lookup α A ds         == the number of ds that stands where α stands in A
 --   weightOf f            == the whole numbers f as a weight
@@ -27,7 +27,7 @@ use lib.IntN.{ℤ, pos, subℕ}
 use Rattle.integers.specs.Sums.{sumAbs}
 use Rattle.integers.specs.Parts.{up, dn}
 use Rattle.signs.specs.Lists.{times}
-use Rattle.signs.specs.Adapted.{lows, adapted}
+use Rattle.signs.specs.Adapted.{restrictions, adapted}
 use Rattle.signs.specs.Tally.{tally}
 use Rattle.solutions.specs.Solution.{limit}
 
@@ -60,35 +60,35 @@ block i k d = record { up = λ α. d .up (α + k * 3 ^ i); dn = λ α. d .dn (α
 -- ---- one pattern of P1 .. Pi with the three signs of P(i+1), of which those with t above 0 stand in the list
 
 -- + less − where at most one sign does: u − u′ is the sum of all three
-unfoldable pub known-1 : (t₀ t₁ t₂ u u′ : ℕ) → ℕ
-known-1 zero zero zero u u′ = 0
-known-1 zero zero (suc t₂) u u′ = u′
-known-1 zero (suc t₁) zero u u′ = u
-known-1 zero (suc t₁) (suc t₂) u u′ = 0
-known-1 (suc t₀) t₁ t₂ u u′ = 0
+unfoldable pub known1 : (t₀ t₁ t₂ u u′ : ℕ) → ℕ
+known1 zero zero zero u u′ = 0
+known1 zero zero (suc t₂) u u′ = u′
+known1 zero (suc t₁) zero u u′ = u
+known1 zero (suc t₁) (suc t₂) u u′ = 0
+known1 (suc t₀) t₁ t₂ u u′ = 0
 
 -- + and − where at most two do: v − v′ is + less −
-unfoldable pub known-2 : (t₀ t₁ t₂ u v v′ : ℕ) → ℕ
-known-2 zero zero zero u v v′ = 0
-known-2 zero zero (suc t₂) u v v′ = u
-known-2 zero (suc t₁) t₂ u v v′ = u
-known-2 (suc t₀) zero zero u v v′ = 0
-known-2 (suc t₀) zero (suc t₂) u v v′ = v′
-known-2 (suc t₀) (suc t₁) zero u v v′ = v
-known-2 (suc t₀) (suc t₁) (suc t₂) u v v′ = 0
+unfoldable pub known2 : (t₀ t₁ t₂ u v v′ : ℕ) → ℕ
+known2 zero zero zero u v v′ = 0
+known2 zero zero (suc t₂) u v v′ = u
+known2 zero (suc t₁) t₂ u v v′ = u
+known2 (suc t₀) zero zero u v v′ = 0
+known2 (suc t₀) zero (suc t₂) u v v′ = v′
+known2 (suc t₀) (suc t₁) zero u v v′ = v
+known2 (suc t₀) (suc t₁) (suc t₂) u v v′ = 0
 
 unfoldable pub knownDifference : ℕ → List ℕ → Weight → Weight
 knownDifference i L u =
     record {
-      up = λ q. known-1 (times q L) (times (q + 3 ^ i) L) (times (q + 2 * 3 ^ i) L) (u .up q) (u .dn q);
-      dn = λ q. known-1 (times q L) (times (q + 3 ^ i) L) (times (q + 2 * 3 ^ i) L) (u .dn q) (u .up q);
+      up = λ q. known1 (times q L) (times (q + 3 ^ i) L) (times (q + 2 * 3 ^ i) L) (u .up q) (u .dn q);
+      dn = λ q. known1 (times q L) (times (q + 3 ^ i) L) (times (q + 2 * 3 ^ i) L) (u .dn q) (u .up q);
     }
 
 unfoldable pub knownSum : ℕ → List ℕ → Weight → Weight → Weight
 knownSum i L u v =
     record {
-      up = λ q. known-2 (times q L) (times (q + 3 ^ i) L) (times (q + 2 * 3 ^ i) L) (u .up q) (v .up q) (v .dn q);
-      dn = λ q. known-2 (times q L) (times (q + 3 ^ i) L) (times (q + 2 * 3 ^ i) L) (u .dn q) (v .dn q) (v .up q);
+      up = λ q. known2 (times q L) (times (q + 3 ^ i) L) (times (q + 2 * 3 ^ i) L) (u .up q) (v .up q) (v .dn q);
+      dn = λ q. known2 (times q L) (times (q + 3 ^ i) L) (times (q + 2 * 3 ^ i) L) (u .dn q) (v .dn q) (v .up q);
     }
 
 unfoldable pub glue : ℕ → (ℕ → ℕ) → (ℕ → ℕ) → (ℕ → ℕ) → ℕ → ℕ
@@ -110,9 +110,9 @@ unfoldable pub solve : ℕ → List ℕ → Weight → Option Weight
 solve zero [] d = some (record { up = λ q. 0; dn = λ q. 0 })
 solve zero (σ ∷ L) d = some d
 solve (suc i) L d =
-    andThen (solve i (lows 1 i L) (block i 0 d)) λ u.
-    andThen (solve i (lows 2 i L) (block i 1 d ⊖ queries i (knownDifference i L u))) λ x.
-    andThen (solve i (lows 3 i L) (block i 2 d ⊖ queries i (knownSum i L u (knownDifference i L u ⊕ x)))) λ y.
+    andThen (solve i (restrictions 1 i L) (block i 0 d)) λ u.
+    andThen (solve i (restrictions 2 i L) (block i 1 d ⊖ queries i (knownDifference i L u))) λ x.
+    andThen (solve i (restrictions 3 i L) (block i 2 d ⊖ queries i (knownSum i L u (knownDifference i L u ⊕ x)))) λ y.
     combine i u (knownDifference i L u ⊕ x) (knownSum i L u (knownDifference i L u ⊕ x) ⊕ y)
 
 -- ---- whole numbers in, whole numbers out

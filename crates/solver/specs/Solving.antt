@@ -1,5 +1,5 @@
--- What a call of the solver answers and leaves in the slice lent to it (document 01, "Cause, and what the caller gets": 3, 11, 15, 12, in the order of
--- its last paragraph).
+-- What a call of the solver answers and leaves in the slice lent to it (document 01, "Cause, and what the caller gets": 3, 11, 15, 12, in
+-- the order of its last paragraph).
 --
 --   causeOf s L xs out == the number of the first cause that refuses a call on s, L, xs and the slice out, 12 aside; 0 where none does
 --   answered out r     == the answer and the slice where the solver's result is r: 12 and the slice as it was, or the numbers at its front

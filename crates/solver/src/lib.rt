@@ -1,5 +1,5 @@
 // The solver (document 01, "Adapted lists"): the whole numbers on a list of patterns whose queries on its adapted list are given. The recursion is in
-// `descent`.
+// `solver_recursion`.
 ghost use mathlib.Core.Path.{_≡_};
 ghost use Prim.Native.Nat.{_≤_};
 ghost use lib.ListN.{length};
@@ -7,9 +7,6 @@ ghost use Rattle.refusals.specs.Limits.{mostPolynomials, mostPoints};
 ghost use Rattle.solutions.specs.Solution.{Posed};
 ghost use Rattle.solutions.specs.Solver.{solverOf};
 ghost use Rattle.solver.specs.Solving.{answered, solveOf};
-use descent::solve_list;
-use moments::copy_small;
-use moments::copy_wide;
 use refusals::MOST_POINTS;
 use refusals::MOST_POLYNOMIALS;
 use refusals::NO_SOLUTION;
@@ -17,6 +14,9 @@ use refusals::TOO_SHORT;
 use refusals::WRONG_COUNT;
 use refusals::WRONG_LIST;
 use solutions::posed;
+use solver_moments::copy_small;
+use solver_moments::copy_wide;
+use solver_recursion::solve_list;
 
 // What a call answers: that the numbers are found, or document 01's number of the cause why they are not.
 pub enum Solved {

@@ -18,7 +18,8 @@ step-late (ask p) e = let clash : _≡_ {A = ℕ} 0 2 = ap (λ (t : FlatStep). t
 step-late done e = let clash : _≡_ {A = ℕ} 1 2 = ap (λ (t : FlatStep). t .kind) e in absurd (omega arith)
 step-late (refused k) e = ap refused (ap (λ (t : FlatStep). t .value) e)
 
--- what an answer promises, by its plain numbers alone: they and the record are as the rules say, and with those of 7 the record is as it was
+-- what an answer promises, by its plain numbers alone: they and the record are as the rules say, and with those of 7 the record is as it
+-- was
 pub flat-answer : (run run′ : Run) (a : ℤ) (t : FlatStep) → AnswerGivesFlat run a run′ t
     → ((stateOf run′, t) ≡ flatAnsweredOf (answerOf roundRows (stateOf run) a)) × (t ≡ flatStepOf (refused late) → run′ ≡ run)
 flat-answer run run′ a t (x, g, e) = (

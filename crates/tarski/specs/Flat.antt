@@ -1,27 +1,28 @@
 -- The answers of the calls as plain numbers, for C and Rust: a refusal number beside the result, 0 where nothing is refused.
 --
---   cardOf a         == s and n of a sound card; no polynomials and no points where it is refused
---   numberOf a       == a query, or 0 where it is refused
---   refusalOf a      == the number that refuses a solver's call, or 0
---   flatStepOf a     == a step of a run: 0 with the product to ask, 1 done, 2 with the number that refuses
---   flatAnsweredOf t == the record after a call on a run, and its step as plain numbers
---   keptOn r t       == the record and the step t of a start in the lent record r: refused, it is as it was (3: "all lent memory; no run begins")
+--   cardOf a                        == s and n of a sound card; no polynomials and no points where it is refused
+--   numberOf a                      == a query, or 0 where it is refused
+--   refusalOf a                     == the number that refuses a solver's call, or 0
+--   flatStepOf a                    == a step of a run: 0 with the product to ask, 1 done, 2 with the number that refuses
+--   flatAnsweredOf t                == the record after a call on a run, and its step as plain numbers
+--   keptOn r t                      == the record and the step t of a start in the lent record r: refused, it is as it was (3: "all lent
+--                                      memory; no run begins")
 --   AnswerGivesFlat run a run′ step == what an answer promises, `AnswerGives`, with the step as plain numbers
 --   StartGivesFlat run s run′ step  == what a start for s in the lent record run promises of the record run′ after it and of the step
---   rowOf a          == a row fetched; 0 and 0 where it is refused
---   copiedOf a       == how many rows were copied; none where it is refused
---   leftOf c         == the same with the two slices as they are left
+--   rowOf a                         == a row fetched; 0 and 0 where it is refused
+--   copiedOf a                      == how many rows were copied; none where it is refused
+--   leftOf c                        == how many rows were copied, and the two slices as they are left
 use mathlib.Core.Path.{_≡_}
 use mathlib.Core.List.{List}
 use Prim.Native.Nat.{ℕ}
 use lib.IntN.{ℤ, pos}
 use Rattle.card.specs.declared.Card.{Card}
 use Rattle.card.specs.declared.Card.the-variants as of-card
-use Rattle.query.specs.declared.Answer.{Answer}
-use Rattle.query.specs.declared.Answer.the-variants as of-query
+use Rattle.query.specs.declared.Queried.{Queried}
+use Rattle.query.specs.declared.Queried.the-variants as of-query
 use Rattle.solver.specs.declared.Solved.{Solved}
 use Rattle.solver.specs.declared.Solved.the-variants as of-solver
-use Rattle.runs.specs.Run.{State, Step, ask, done, refused, Fetch, row, no-row, Copied, copied, not-copied, Copy}
+use Rattle.runs.specs.Run.{State, Step, ask, done, refused, Fetch, row, noRow, Copied, copied, notCopied, Copy}
 use Rattle.refusals.specs.Numbers.{wrongCount}
 use Rattle.determination.specs.Record.{stateOf, AnswerGives, startedOf}
 use Rattle.determination.specs.declared.Run.{Run}
@@ -35,7 +36,7 @@ unfoldable pub cardOf : Card → Checked
 cardOf (of-card.Sound s n) = record { polynomials = s; points = n; refusal = 0 }
 cardOf (of-card.Refused k) = record { polynomials = 0; points = 0; refusal = k }
 
-unfoldable pub numberOf : Answer → Number
+unfoldable pub numberOf : Queried → Number
 numberOf (of-query.Number z) = record { number = z; refusal = 0 }
 numberOf (of-query.Refused k) = record { number = pos 0; refusal = k }
 
@@ -66,11 +67,11 @@ StartGivesFlat run s run′ step =
 
 unfoldable pub rowOf : Fetch → FlatRow
 rowOf (row r) = record { pattern = r .pattern; count = r .count; refusal = 0 }
-rowOf (no-row k) = record { pattern = 0; count = 0; refusal = k }
+rowOf (noRow k) = record { pattern = 0; count = 0; refusal = k }
 
 unfoldable pub copiedOf : Copied → FlatCopied
 copiedOf (copied n) = record { rows = n; refusal = 0 }
-copiedOf (not-copied k) = record { rows = 0; refusal = k }
+copiedOf (notCopied k) = record { rows = 0; refusal = k }
 
 abbrev pub leftOf : Copy → FlatCopied × List ℕ × List ℕ
-leftOf c = (copiedOf (c .result), c .patterns-left, c .counts-left)
+leftOf c = (copiedOf (c .result), c .patternsLeft, c .countsLeft)

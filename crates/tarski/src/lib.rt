@@ -4,7 +4,7 @@ ghost use mathlib.Core.Path.{_≡_};
 ghost use Rattle.card.specs.Answers.{reading};
 ghost use Rattle.query.specs.Query.{queryAnswer};
 ghost use Rattle.solver.specs.Solving.{solveOf};
-ghost use Rattle.query.specs.Opened.{opened, answer as askedOf};
+ghost use Rattle.query.specs.Opened.{opened, openedAnswer as askedOf};
 ghost use Rattle.runs.specs.Run.{fetchOf, copyOf};
 ghost use Rattle.determination.specs.Record.{stateOf, stepOf};
 ghost use Rattle.tarski.specs.Flat.{cardOf, numberOf, refusalOf, flatStepOf, AnswerGivesFlat, StartGivesFlat, rowOf, leftOf};
@@ -18,8 +18,8 @@ use determination::asked;
 use determination::copy_rows;
 use determination::fetch_row;
 use determination::start;
-use query::Answer;
 use query::Opened;
+use query::Queried;
 use refusals::NONE;
 use signs::Product;
 use solver::Solved;
@@ -96,15 +96,15 @@ pub extern "C" fn tarski_check(card: &[u8]) -> Checked
 }
 
 // A query's answer as plain numbers.
-fn flat(answer: Answer) -> Number
+fn flat(answer: Queried) -> Number
     ensures { λ r. ⌜ r ≡ numberOf answer ⌝ }
 {
     match answer {
-        Answer::Number(x) => Number {
+        Queried::Number(x) => Number {
             number: x,
             refusal: NONE,
         },
-        Answer::Refused(k) => Number {
+        Queried::Refused(k) => Number {
             number: 0,
             refusal: k,
         },

@@ -4,7 +4,8 @@ use mathlib.Core.Path.{_≡_}
 use Prim.Native.Nat.{ℕ, suc, _+_, _*_, _-_, _^_, _≤_, _<_}
 use lib.ListN.{length, take}
 use Rattle.adapted.specs.Split.{chosen, partsOf}
-use Rattle.adapted.proofs.Adapting.{chosen-rising, chosen-below, parts-length, written-parts, written-none, written-one, some-polynomial, front, fronts, Fronts}
+use Rattle.adapted.proofs.Adapting.{chosen-rising, chosen-below, parts-length, written-parts, written-none, written-one}
+use Rattle.adapted.proofs.Adapting.{some-polynomial, front, fronts, Fronts}
 use Rattle.adapted.proofs.Merge.{chosen-length}
 use native.Mathlib.Omega.{arith}
 use borrow.Author.Needs.{needs}
@@ -87,32 +88,45 @@ adapted-one-less : (t : ℕ) (c : adapted-lts.Else2 (adapted-split-below t, adap
     → suc (c .before .before .before .before .args .i - 1) ≡ c .before .before .before .before .args .i
 adapted-one-less t c =
     let st = c .before .before .before .before in
-    let h : 1 ≤ st .args .i = some-polynomial (st .args .i) (st .args .l .now) (st .pre .1 .1 .0 .0) (st .pre .1 .1 .0 .1) (c .before .if1 .left) (c .if2 .left) in
+    let h : 1 ≤ st .args .i = some-polynomial (st .args .i) (st .args .l .now) (st .pre .1 .1 .0 .0) (st .pre .1 .1 .0 .1)
+    (c .before .if1 .left) (c .if2 .left) in
     omega arith
 
 -- the patterns that `having` left
-adapted-high-front : (t : ℕ) (c : adapted-high-lts.After-having (having-reads.Asked, having-reads.Learnt, adapted-below t, adapted.Post) (adapted-high-at t) adapted-high.Post)
+adapted-high-front : (t : ℕ)
+    (c : adapted-high-lts.After-having (having-reads.Asked, having-reads.Learnt, adapted-below t, adapted.Post)
+    (adapted-high-at t) adapted-high.Post)
     → let a = c .before .before .before .before .before .args in
     take (c .having .result) (c .having .last .1 .1 .1 .0) ≡ chosen (a .k) (a .low .now) (a .mark .now)
 adapted-high-front t c =
     let st = c .before .before .before .before .before in
     let a = st .args in
-    front (a .k) (c .having .result) (a .low .now) (a .mark .now) (c .having .last .1 .1 .1 .0) (st .pre .1 .1 .1 .0) (c .having .ensures .0) (c .having .ensures .1)
+    front (a .k) (c .having .result) (a .low .now) (a .mark .now) (c .having .last .1 .1 .1 .0) (st .pre .1 .1 .1 .0)
+    (c .having .ensures .0) (c .having .ensures .1)
 
-adapted-parts-size : (t : ℕ) (c : adapted-parts-lts.Start (adapted-below t, adapted.Post, adapted-high-below t, adapted-high.Post) (adapted-parts-at t) adapted-parts.Post)
+adapted-parts-size : (t : ℕ)
+    (c : adapted-parts-lts.Start (adapted-below t, adapted.Post, adapted-high-below t, adapted-high.Post)
+    (adapted-parts-at t) adapted-parts.Post)
     → let a = c .args in
-    length (partsOf (a .i) (a .low .now) (a .mark .now)) ≡ length (a .low .now) + (length (chosen 2 (a .low .now) (a .mark .now)) + length (chosen 3 (a .low .now) (a .mark .now)))
+    length (partsOf (a .i) (a .low .now) (a .mark .now))
+    ≡ length (a .low .now) + (length (chosen 2 (a .low .now) (a .mark .now)) + length (chosen 3 (a .low .now) (a .mark .now)))
 adapted-parts-size t c = parts-length (c .args .i) (c .args .low .now) (c .args .mark .now) (c .pre .1 .1 .0 .0) (c .pre .1 .1 .0 .1)
 
 -- what the merge left
-adapted-split-fronts : (t : ℕ) (c : adapted-split-lts.After-split (power-reads.Asked, power-reads.Learnt, split-reads.Asked, split-reads.Learnt, adapted-parts-below t, adapted-parts.Post) (adapted-split-at t) adapted-split.Post)
+adapted-split-fronts : (t : ℕ)
+    (c : adapted-split-lts.After-split
+    (power-reads.Asked, power-reads.Learnt, split-reads.Asked, split-reads.Learnt, adapted-parts-below t, adapted-parts.Post)
+    (adapted-split-at t) adapted-split.Post)
     → let a = c .before .before .before .before .before .before .before .args in
-    Fronts (a .i) (c .split .result) (a .l .now) (take (c .split .result) (c .split .last .1 .1 .0)) (take (c .split .result) (c .split .last .1 .1 .1 .0))
+    Fronts (a .i) (c .split .result) (a .l .now) (take (c .split .result) (c .split .last .1 .1 .0))
+    (take (c .split .result) (c .split .last .1 .1 .1 .0))
 adapted-split-fronts t c =
     let p = c .before .before .before .before in
     let st = p .before .before .before in
-    fronts (st .args .i) (c .split .result) (p .power .result) (st .args .l .now) (c .split .last .1 .1 .0) (c .split .last .1 .1 .1 .0) (c .split .last .1 .1 .1 .1 .0)
-    (p .power .ensures) (st .pre .1 .1 .0 .0) (st .pre .1 .1 .0 .1) (omega (arith, c .split .kept .1 .1 .0)) (omega (arith, c .split .kept .1 .1 .1 .0)) (c .split .ensures)
+    fronts (st .args .i) (c .split .result) (p .power .result) (st .args .l .now) (c .split .last .1 .1 .0) (c .split .last .1 .1 .1 .0)
+    (c .split .last .1 .1 .1 .1 .0)
+    (p .power .ensures) (st .pre .1 .1 .0 .0) (st .pre .1 .1 .0 .1) (omega (arith, c .split .kept .1 .1 .0))
+    (omega (arith, c .split .kept .1 .1 .1 .0)) (c .split .ensures)
 
 pub +adapted+adapted-high+adapted-parts+adapted-split-spec : {M : Type 1} → statement M
 +adapted+adapted-high+adapted-parts+adapted-split-spec =
@@ -160,8 +174,19 @@ pub +adapted+adapted-high+adapted-parts+adapted-split-spec : {M : Type 1} → st
     let st = p .before .before .before .before .before in
     let a = st .args in
     let e = adapted-high-front t p in
-    let h = chosen-length (a .k) (a .low .now) (a .mark .now) in
-    (omega arith, ((omega arith, omega arith), ((rw e (chosen-rising (a .k) (a .low .now) (a .mark .now) (st .pre .1 .1 .0 .0)), rw e (chosen-below (a .k) (3 ^ a .i) (a .low .now) (a .mark .now) (st .pre .1 .1 .0 .1))), (rw e (omega arith), rw e (st .pre .1 .1 .1 .1))))))
+    let h = chosen-length (a .k) (a .low .now) (a .mark .now) in (
+      omega arith,
+      (
+        (omega arith, omega arith),
+        (
+          (
+            rw e (chosen-rising (a .k) (a .low .now) (a .mark .now) (st .pre .1 .1 .0 .0)),
+            rw e (chosen-below (a .k) (3 ^ a .i) (a .low .now) (a .mark .now) (st .pre .1 .1 .0 .1)),
+          ),
+          (rw e (omega arith), rw e (st .pre .1 .1 .1 .1)),
+        ),
+      ),
+    ))
     (λ c. search needs)
     (λ c. let e = adapted-high-front t (c .before .before .before .before .before .before) in
     let called = c .before .before .adapted in
@@ -187,7 +212,8 @@ pub +adapted+adapted-high+adapted-parts+adapted-split-spec : {M : Type 1} → st
     let n = adapted-parts-size t st in
     (omega arith, ((omega arith, omega arith), (st .pre .1 .1 .0, (st .pre .1 .1 .1 .0, omega arith)))))
     (λ c. search needs)
-    (λ c. let st = c .before .before .before .before .before .before .before .before .before .before .before .before .before .before .before in
+    (λ c. let st = c .before .before .before .before .before .before .before .before .before .before .before .before .before .before .before
+    in
     let a = st .args in
     let n = adapted-parts-size t st in
     let one = c .before .before .before .before .before .before .before .before .before .before .adapted in
@@ -222,16 +248,23 @@ pub +adapted+adapted-high+adapted-parts+adapted-split-spec : {M : Type 1} → st
     (λ c. search needs)
     (λ c. search needs)
     (λ c κs. let st = c .before .before .before .before .before .before in
-    let e : 3 * c .before .before .before .power .result ≡ 3 ^ suc (st .args .i) = omega arith in
-    ((omega arith, st .pre .1 .1 .0 .0, rw e (st .pre .1 .1 .0 .1), st .pre .1 .1 .1 .0), (st .pre .1 .1 .1 .0, st .pre .1 .1 .1 .0, st .pre .1 .1 .1 .0)))
+    let e : 3 * c .before .before .before .power .result ≡ 3 ^ suc (st .args .i) = omega arith in (
+      (omega arith, st .pre .1 .1 .0 .0, rw e (st .pre .1 .1 .0 .1), st .pre .1 .1 .1 .0),
+      (st .pre .1 .1 .1 .0, st .pre .1 .1 .1 .0, st .pre .1 .1 .1 .0),
+    ))
     (λ c. search needs)
     (λ c. adapted-split-fronts t (c .before .before .before .before) .left)
     (λ c. search needs)
     (λ c. adapted-split-fronts t (c .before .before .before .before .before) .marked)
     (λ c κs. let p = c .before .before .before .before .before .before in
     let st = p .before .before .before .before .before .before .before in
-    let k = adapted-split-fronts t p in
-    (omega arith, ((st .pre .1 .0 .0, p .before .before .before .before .power .ensures, st .pre .1 .0 .1), ((p .split .ensures .rising, k .below, omega arith, k .marks), (omega arith, rw (k .size) (st .pre .1 .1 .1 .1))))))
+    let k = adapted-split-fronts t p in (
+      omega arith,
+      (
+        (st .pre .1 .0 .0, p .before .before .before .before .power .ensures, st .pre .1 .0 .1),
+        ((p .split .ensures .rising, k .below, omega arith, k .marks), (omega arith, rw (k .size) (st .pre .1 .1 .1 .1))),
+      ),
+    ))
     (λ c. search needs)
     (λ c. let k = adapted-split-fronts t (c .before .before .before .before .before .before .before .before .before) in
     let called = c .before .before .adapted-parts in

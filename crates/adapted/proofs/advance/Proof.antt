@@ -1,4 +1,4 @@
--- `adapted::advance` meets its contract. Assumes nothing.
+-- `adapted::advance` meets its contract.
 use mathlib.Core.Path.{refl, sym}
 use native.Mathlib.Nat.{add-zero}
 use borrow.Author.Tests.{eq-eqb, ne-eqb}

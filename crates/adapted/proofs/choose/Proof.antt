@@ -1,4 +1,4 @@
--- `adapted::choose` meets its contract. Assumes nothing.
+-- `adapted::choose` meets its contract.
 use mathlib.Core.Path.{_≡_, refl, sym}
 use mathlib.Core.Bool.{true, false}
 use Prim.Native.Nat.{ℕ, _≤_, _<_}

@@ -1,4 +1,4 @@
--- `adapted::count` meets its contract: the table has the counts. Assumes nothing.
+-- `adapted::count` meets its contract: the table has the counts.
 use Rattle.adapted.proofs.Stores.{counts}
 use borrow.Author.Needs.{needs}
 use Rattle.adapted.proofs.count.Statement.{statement}

@@ -1,4 +1,4 @@
--- `adapted::having` meets its contract: what the elements passed leave is written. Assumes nothing.
+-- `adapted::having` meets its contract: what the elements passed leave is written.
 use native.Mathlib.Nat.{zero-add}
 use lib.ListN.{length-take, length-append}
 use lib.Seq.{take-all}
@@ -43,7 +43,11 @@ choose-requires c κs =
     let j = l .j in (
       below-at 8 (s .args .mark .now) (s .pre .1) j (omega arith),
       rw (l .inv .2, length-sets)
-          (omega (arith, chosen-length (s .args .k) (take j (s .args .low .now)) (take j (s .args .mark .now)), length-take j (s .args .low .now))),
+          (omega (
+            arith,
+            chosen-length (s .args .k) (take j (s .args .low .now)) (take j (s .args .mark .now)),
+            length-take j (s .args .low .now),
+          )),
     )
 
 add-j : tie.Need-add-j Inv-loop μ-loop
@@ -57,7 +61,8 @@ loop-again c =
     let l = c .before .before .before .before .before .before .before .loop in
     let s = c .before .before .before .before .before .before .before .before .before .before .before in
     let called = c .before .before .choose in
-    let next = chosen-next (s .args .k) (l .j) (s .args .low .now) (s .args .mark .now) (c .before .before .before .before .before .before .loop-test .taken) (s .pre .0) in (
+    let next = chosen-next (s .args .k) (l .j) (s .args .low .now) (s .args .mark .now)
+    (c .before .before .before .before .before .before .loop-test .taken) (s .pre .0) in (
       omega arith,
       rw (next, length-append, ← l .inv .1) (called .ensures .0),
       rw (next, sets-append, zero-add, ← l .inv .1, ← l .inv .2) (called .ensures .1),

@@ -1,4 +1,4 @@
--- `adapted::least` meets its contract. Assumes nothing.
+-- `adapted::least` meets its contract.
 use native.Mathlib.Omega.{arith}
 use mathlib.Core.Logic.{⊎-elim}
 use Rattle.adapted.proofs.least.Statement.{statement}

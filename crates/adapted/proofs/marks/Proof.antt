@@ -1,4 +1,4 @@
--- `adapted::marks` meets its contract. Assumes nothing.
+-- `adapted::marks` meets its contract.
 use native.Mathlib.Omega.{arith}
 use borrow.Author.Needs.{needs}
 use Rattle.adapted.proofs.marks.Statement.{statement}

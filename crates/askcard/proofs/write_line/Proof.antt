@@ -15,7 +15,8 @@ array-share-prefix-bytes c =
 slice-aggregate-write-all : tie.Need-slice-aggregate-write-all
 slice-aggregate-write-all c =
     let st = c .before .before .before .before in
-    sym (length-take-le (st .args .line .length) (st .args .line .bytes) (omega (arith, bytes-length (st .args .line) (st .good .0), c .before .if2 .left)))
+    sym (length-take-le (st .args .line .length) (st .args .line .bytes)
+    (omega (arith, bytes-length (st .args .line) (st .good .0), c .before .if2 .left)))
 
 pub write-line-spec : {M : Type 1} → statement M
 write-line-spec =

@@ -1,26 +1,26 @@
--- `card::body` meets its contract. Assumes nothing.
+-- `card::body` meets its contract.
 
 use mathlib.Core.Path.{_≡_, refl, sym, _∙_}
 use mathlib.Core.List.{List, []}
 use Prim.Native.Nat.{ℕ, _+_, _-_, _≤_}
 use native.Mathlib.Omega.{arith}
 use Rattle.layout.specs.Format.{offset, size}
-use Rattle.card.specs.Card.{place}
-use Rattle.card.proofs.Places.{held, unless-none, unless-number}
+use Rattle.card.specs.Card.{positionRefusal}
+use Rattle.card.proofs.Positions.{held, unless-none, unless-number}
 use lib.ListN.{length, take, drop}
 use Rattle.card.specs.Answers.{body, start}
 use borrow.Author.Needs.{needs}
 use Rattle.card.proofs.body.Statement.{statement}
 use Rattle.card.proofs.body.Tie as tie
 
-place-requires : tie.Need-place-requires
-place-requires c κs = search needs
+check-position-requires : tie.Need-check-position-requires
+check-position-requires c κs = search needs
 
 slice-aggregate-result : tie.Need-slice-aggregate-result
 slice-aggregate-result c = search needs
 
 -- ---- a refused card or position
-module _ (c : List ℕ) (j : ℕ) (refused : place c j ≡ 0 → ⊥) where
+module _ (c : List ℕ) (j : ℕ) (refused : positionRefusal c j ≡ 0 → ⊥) where
   no-bytes : [] ≡ body c j
   unfolding body
   no-bytes = sym (unless-number _ _ _ refused)
@@ -30,7 +30,7 @@ module _ (c : List ℕ) (j : ℕ) (refused : place c j ≡ 0 → ⊥) where
   no-start at = let e : start c j ≡ 0 = unless-number _ _ _ refused in omega arith
 
 -- ---- the stretch from `from` on, `len` bytes long
-module _ (c : List ℕ) (j from len : ℕ) (h : place c j ≡ 0) (e : from ≡ offset c j) (f : len ≡ size c from) where
+module _ (c : List ℕ) (j from len : ℕ) (h : positionRefusal c j ≡ 0) (e : from ≡ offset c j) (f : len ≡ size c from) where
   ends : from + len ≤ length c
   ends = rw (f, e) (held c j h .body .small .whole .ends)
 
@@ -43,10 +43,14 @@ module _ (c : List ℕ) (j from len : ℕ) (h : place c j ≡ 0) (e : from ≡ o
   begins at = let b : start c j ≡ offset c j = unless-none _ _ _ h in omega arith
 
 returns : tie.Need-returns
-returns c = (no-bytes _ _ (λ e. c .before .if1 .taken (c .before .before .place .ensures ∙ e)), refl, no-start _ _ (λ e. c .before .if1 .taken (c .before .before .place .ensures ∙ e)) _)
+returns c = (
+  no-bytes _ _ (λ e. c .before .if1 .taken (c .before .before .check-position .ensures ∙ e)),
+  refl,
+  no-start _ _ (λ e. c .before .if1 .taken (c .before .before .check-position .ensures ∙ e)) _,
+)
 
-good : (c : tie.Else1) → place (c .before .before .before .args .card .now) (c .before .before .before .args .j) ≡ 0
-good c = sym (c .before .place .ensures) ∙ c .if1 .left
+good : (c : tie.Else1) → positionRefusal (c .before .before .before .args .card .now) (c .before .before .before .args .j) ≡ 0
+good c = sym (c .before .check-position .ensures) ∙ c .if1 .left
 
 offset-requires : tie.Need-offset-requires
 offset-requires c κs = let h = held _ _ (good c) in omega arith
@@ -67,13 +71,17 @@ part-result-end : tie.Need-part-result-end
 part-result-end c = let l = ends _ _ _ _ (good (c .before .before)) (c .before .offset .ensures) (c .size .ensures) in omega arith
 
 returns-2 : tie.Need-returns-2
-returns-2 c = (bytes _ _ _ _ (good (c .before .before .before)) (c .before .before .offset .ensures) (c .before .size .ensures), refl, begins _ _ _ _ (good (c .before .before .before)) (c .before .before .offset .ensures) (c .before .size .ensures) _)
+returns-2 c = (
+  bytes _ _ _ _ (good (c .before .before .before)) (c .before .before .offset .ensures) (c .before .size .ensures),
+  refl,
+  begins _ _ _ _ (good (c .before .before .before)) (c .before .before .offset .ensures) (c .before .size .ensures) _,
+)
 
 pub body-spec : {M : Type 1} → statement M
 body-spec =
     tie.close
     (tie.spec
-    place-requires
+    check-position-requires
     slice-aggregate-result
     returns
     offset-requires

@@ -1,15 +1,15 @@
--- `card::read` meets its contract. Assumes nothing.
+-- `card::read` meets its contract.
 
 use mathlib.Core.Path.{_≡_, sym, ap, _∙_}
 use mathlib.Core.List.{List}
 use Prim.Native.Nat.{ℕ}
 use native.Mathlib.Omega.{arith}
 use Rattle.card.specs.declared.Card.the-variants as Card
-use Rattle.layout.specs.Format.{polynomials, points}
+use Rattle.layout.specs.Format.{polynomials, pointCount}
 use Rattle.card.specs.Card.{refusal}
 use Rattle.card.specs.Answers.{reading}
 use Rattle.card.proofs.Sound.{sound-headed}
-use Rattle.card.proofs.Places.{unless-none, unless-number}
+use Rattle.card.proofs.Positions.{unless-none, unless-number}
 use borrow.Author.Needs.{needs}
 use Rattle.card.proofs.read.Statement.{statement}
 use Rattle.card.proofs.read.Tie as tie
@@ -36,12 +36,14 @@ shared-slice-read-wide-2 c = let h = sound-headed _ (good (c .before .before .be
 wide-requires-2 : tie.Need-wide-requires-2
 wide-requires-2 c κs = search needs
 
-read-sound : (c : List ℕ) (s n : ℕ) → s ≡ polynomials c → n ≡ points c → Card.Sound s n ≡ Card.Sound (polynomials c) (points c)
+read-sound : (c : List ℕ) (s n : ℕ) → s ≡ polynomials c → n ≡ pointCount c → Card.Sound s n ≡ Card.Sound (polynomials c) (pointCount c)
 read-sound c s n e f = cc
 
 returns-2 : tie.Need-returns-2
 unfolding reading
-returns-2 c = read-sound (c .before .before .before .before .before .before .before .args .card .now) _ _ (c .before .before .wide .ensures .0) (c .wide2 .ensures .0) ∙ sym (unless-none _ _ _ (good (c .before .before .before .before)))
+returns-2 c =
+    read-sound (c .before .before .before .before .before .before .before .args .card .now) _ _ (c .before .before .wide .ensures .0)
+    (c .wide2 .ensures .0) ∙ sym (unless-none _ _ _ (good (c .before .before .before .before)))
 
 pub read-spec : {M : Type 1} → statement M
 read-spec =

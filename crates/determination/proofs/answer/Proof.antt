@@ -26,26 +26,29 @@ late-requires c κs = search needs
 returns : tie.Need-returns
 returns c =
     let st = c .before .before .before in
-    let e : isRunning (st .args .run) ≡ false = sym (c .before .before .running .ensures) ∙ not-true (c .before .before .running .result) (c .before .if1 .taken) in
+    let e : isRunning (st .args .run) ≡ false = sym (c .before .before .running .ensures)
+    ∙ not-true (c .before .before .running .result) (c .before .if1 .taken) in
     rw (c .late .ensures) (late-gives (st .args .run) (st .args .a) e)
 
-first-requires : tie.Need-first-requires
-first-requires c κs = (goes (c .before .before), c .if2 .taken)
+first-answer-requires : tie.Need-first-answer-requires
+first-answer-requires c κs = (goes (c .before .before), c .if2 .taken)
 
 returns-2 : tie.Need-returns-2
 returns-2 c =
     let st = c .before .before .before .before .before in
-    let r = rw (toZ-ofZ w64 (st .args .a) (st .fits .a)) at (c .first .ensures) ∙ sym (answer-first roundRows (runningState (st .args .run)) (st .args .a) refl (c .before .if2 .taken)) in
+    let r = rw (toZ-ofZ w64 (st .args .a) (st .fits .a)) at (c .first-answer .ensures)
+    ∙ sym (answer-first roundRows (runningState (st .args .run)) (st .args .a) refl (c .before .if2 .taken)) in
     running-gives (st .args .run) _ (st .args .a) _ (goes (c .before .before .before)) r
 
-later-requires : tie.Need-later-requires
-later-requires c κs = let h = c .if2 .left in (goes (c .before .before), omega arith)
+later-answer-requires : tie.Need-later-answer-requires
+later-answer-requires c κs = let h = c .if2 .left in (goes (c .before .before), omega arith)
 
 returns-3 : tie.Need-returns-3
 returns-3 c =
     let st = c .before .before .before .before .before in
     let h = c .before .if2 .left in
-    let r = rw (toZ-ofZ w64 (st .args .a) (st .fits .a)) at (c .later .ensures) ∙ sym (answer-later roundRows (runningState (st .args .run)) (st .args .a) refl (omega arith)) in
+    let r = rw (toZ-ofZ w64 (st .args .a) (st .fits .a)) at (c .later-answer .ensures)
+    ∙ sym (answer-later roundRows (runningState (st .args .run)) (st .args .a) refl (omega arith)) in
     running-gives (st .args .run) _ (st .args .a) _ (goes (c .before .before .before)) r
 
 pub answer-spec : {M : Type 1} → statement M
@@ -55,7 +58,7 @@ answer-spec =
     running-requires
     late-requires
     returns
-    first-requires
+    first-answer-requires
     returns-2
-    later-requires
+    later-answer-requires
     returns-3)

@@ -1,4 +1,5 @@
--- `determination::answer_lent` meets its contract: it calls `answer` on the lent record, stores the record after it, and gives the step (`writes`).
+-- `determination::answer_lent` meets its contract: it calls `answer` on the lent record, stores the record after it, and gives the step
+-- (`writes`).
 use lib.IntN.{ℤ}
 use mir.Syntax.{w64}
 use contract.Running.{givenOf, tables, tablesOf}

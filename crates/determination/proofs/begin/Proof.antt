@@ -27,8 +27,10 @@ bound : (c : tie.After-products-of) → let a = c .before .before .before .befor
 bound c =
     let st = c .before .before .before .before in
     let a = st .args in
-    list-below (a .run) (a .i) (a .n) (a .found) (c .products-of .result) (patterns-length (a .found) (st .good .1 .1 .1 .0)) (counts-length (a .found) (st .good .1 .1 .1 .0))
-    (st .pre .0 .0) (st .pre .0 .1) (st .pre .0 .2) (st .pre .0 .3) (st .pre .0 .4) (st .pre .1 .0 .0) (st .pre .1 .0 .1) (c .products-of .ensures)
+    list-below (a .run) (a .i) (a .n) (a .found) (c .products-of .result) (patterns-length (a .found) (st .good .1 .1 .1 .0))
+    (counts-length (a .found) (st .good .1 .1 .1 .0))
+    (st .pre .0 .0) (st .pre .0 .1) (st .pre .0 .2) (st .pre .0 .3) (st .pre .0 .4) (st .pre .1 .0 .0) (st .pre .1 .0 .1)
+    (c .products-of .ensures)
 
 slice-aggregate-products-of : tie.Need-slice-aggregate-products-of
 slice-aggregate-products-of c = search needs
@@ -41,11 +43,11 @@ products-of-requires c κs =
     let e : st .args .found .number ≤ length (st .args .found .patterns) = omega arith in
     (omega arith, few, e, st .pre .1 .1 .0, st .pre .1 .1 .1)
 
-slice-aggregate-product-at : tie.Need-slice-aggregate-product-at
-slice-aggregate-product-at c = search needs
+slice-aggregate-round-product : tie.Need-slice-aggregate-round-product
+slice-aggregate-round-product c = search needs
 
-product-at-requires : tie.Need-product-at-requires
-product-at-requires c κs =
+round-product-requires : tie.Need-round-product-requires
+round-product-requires c κs =
     let st = c .before .before .before .before .before in
     let h = st .pre .1 .0 .0 in
     (omega arith, listed (c .before), bound (c .before), omega (arith, h))
@@ -61,8 +63,10 @@ returns c =
     let st = c .before .before .before .before .before .before .before in
     let a = st .args in
     let p = c .before .before .before in
-    begun (a .run) (a .i) (a .n) (a .found) (p .products-of .result) (patterns-length (a .found) (st .good .1 .1 .1 .0)) (counts-length (a .found) (st .good .1 .1 .1 .0))
-    (st .pre .0 .0) (st .pre .0 .1) (st .pre .0 .2) (st .pre .0 .3) (st .pre .0 .4) (st .pre .1 .0 .0) (st .pre .1 .0 .1) (p .products-of .ensures) (c .before .product-at .result .0) (c .before .product-at .ensures)
+    begun (a .run) (a .i) (a .n) (a .found) (p .products-of .result) (patterns-length (a .found) (st .good .1 .1 .1 .0))
+    (counts-length (a .found) (st .good .1 .1 .1 .0))
+    (st .pre .0 .0) (st .pre .0 .1) (st .pre .0 .2) (st .pre .0 .3) (st .pre .0 .4) (st .pre .1 .0 .0) (st .pre .1 .0 .1)
+    (p .products-of .ensures) (c .before .round-product .result .0) (c .before .round-product .ensures)
 
 pub begin-spec : {M : Type 1} → statement M
 begin-spec =
@@ -70,8 +74,8 @@ begin-spec =
     (tie.spec
     slice-aggregate-products-of
     products-of-requires
-    slice-aggregate-product-at
-    product-at-requires
+    slice-aggregate-round-product
+    round-product-requires
     add-run
     add-run-2
     returns)

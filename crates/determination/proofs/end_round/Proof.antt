@@ -11,7 +11,7 @@ use mir.Syntax.{w64}
 use mir.ValLaws.{toZ-ofZ}
 use Rattle.signs.specs.Lists.{Below}
 use Rattle.rounds.specs.RoundEnd.{roundRows}
-use Rattle.round_end.specs.Outcome.{Left}
+use Rattle.run_round_end.specs.Outcome.{Left}
 use Rattle.rounds.specs.Rows.{Row, patterns}
 use Rattle.determination.specs.Record.{runningState}
 use Rattle.runs.proofs.Ends.{ends-rising, ends-below, ends-some}
@@ -31,14 +31,20 @@ after c =
     let r = c .args .t1 in
     roundRows (r .round - 1) (runningState r .rows) (take (r .answered) (r .answers) ++ (c .args .a ∷ []))
 
-left : (c : tie.After-find-rows) → Left (after (c .before .before .before .before .before .before .before .before)) (c .find-rows .result .next) (c .find-rows .result .patterns) (c .find-rows .result .counts)
-left c = let st = c .before .before .before .before .before .before .before .before in rw (toZ-ofZ w64 (st .args .a) (st .fits .a)) at (c .find-rows .ensures .0)
+left : (c : tie.After-find-rows)
+    → Left (after (c .before .before .before .before .before .before .before .before)) (c .find-rows .result .next)
+    (c .find-rows .result .patterns) (c .find-rows .result .counts)
+left c =
+    let st = c .before .before .before .before .before .before .before .before in
+    rw (toZ-ofZ w64 (st .args .a) (st .fits .a)) at (c .find-rows .ensures .0)
 
 got : (c : tie.After-next) → let f = c .before .before .find-rows .result in
-    Some (after (c .before .before .before .before .before .before .before .before .before .before)) (c .next .given .0 .0) (f .patterns) (f .counts)
+    Some (after (c .before .before .before .before .before .before .before .before .before .before)) (c .next .given .0 .0) (f .patterns)
+    (f .counts)
 got c =
     let f = c .before .before .find-rows .result in
-    left-some (after (c .before .before .before .before .before .before .before .before .before .before)) (f .next) (c .next .given .0 .0) (f .patterns) (f .counts) (left (c .before .before)) (c .next .given .1)
+    left-some (after (c .before .before .before .before .before .before .before .before .before .before)) (f .next) (c .next .given .0 .0)
+    (f .patterns) (f .counts) (left (c .before .before)) (c .next .given .1)
 
 -- there are rows before the round
 rows-before : (c : tie.Start) → 0 < length (runningState (c .args .t1) .rows)
@@ -79,20 +85,24 @@ next-round-requires c κs =
     let e : suc (r .round - 1) ≡ r .round = omega arith in
     let below : Below (3 ^ r .round) (patterns (s .rows)) = rw e at (ends-below i R₀ ws (s .rows) (s .is)) in
     let k = ends-some i R₀ ws (s .rows) (s .is) (rows-before st) in
-    let few = some-few (after st) _ _ _ s (c .before .before .before .before .before .find-rows .ensures .1) in
-    ((st .pre .0, st .pre .1, omega (arith, s .number), few), (rw (s .its-patterns) (ends-rising i R₀ ws (s .rows) (s .is)), rw (s .its-patterns) below))
+    let few = some-few (after st) _ _ _ s (c .before .before .before .before .before .find-rows .ensures .1) in (
+      (st .pre .0, st .pre .1, omega (arith, s .number), few),
+      (rw (s .its-patterns) (ends-rising i R₀ ws (s .rows) (s .is)), rw (s .its-patterns) below),
+    )
 
 returns : tie.Need-returns
 returns c =
     let st = c .before .before .before .before .before .before .before .before .before .before .before in
     let f = c .before .before .before in
-    let e = left-none (after st) (f .find-rows .result .next) (f .find-rows .result .patterns) (f .find-rows .result .counts) (left f) (c .before .enum-told .given .1) in
+    let e = left-none (after st) (f .find-rows .result .next) (f .find-rows .result .patterns) (f .find-rows .result .counts) (left f)
+    (c .before .enum-told .given .1) in
     rw e (c .close .ensures)
 
 returns-2 : tie.Need-returns-2
 returns-2 c =
     let s = got (c .before .before .before .before) in
-    let e = some-held (after (c .before .before .before .before .before .before .before .before .before .before .before .before .before .before)) _ _ _ s in
+    let e = some-held (after
+    (c .before .before .before .before .before .before .before .before .before .before .before .before .before .before)) _ _ _ s in
     rw e (c .next-round .ensures)
 
 pub end-round-spec : {M : Type 1} → statement M

@@ -23,8 +23,10 @@ begin-requires : tie.Need-begin-requires
 begin-requires c κs =
     let st = c .before .before in
     let k = later-from (st .args .run) (st .pre .0 .0) (st .pre .0 .1) in
-    let d = c .if1 .left in
-    ((running-phase (st .args .run) (st .pre .0 .0), omega arith, k .most, k .few-points, omega arith), ((st .pre .0 .2, st .pre .0 .3), st .pre .1))
+    let d = c .if1 .left in (
+      (running-phase (st .args .run) (st .pre .0 .0), omega arith, k .most, k .few-points, omega arith),
+      ((st .pre .0 .2, st .pre .0 .3), st .pre .1),
+    )
 
 returns-2 : tie.Need-returns-2
 returns-2 c =

@@ -50,7 +50,9 @@ returns-3 c =
     let st = c .before .before .before .before .before .before .before .before in
     let r = st .args .t1 in
     let w = c .before .power .ensures in
-    c .front-below .ensures ∙ rw w (test-later r (passed (c .before .before .before .before .before .before)) (c .before .before .before .before .before .if2 .left))
+    c .front-below .ensures
+    ∙ rw w (test-later r (passed (c .before .before .before .before .before .before))
+    (c .before .before .before .before .before .if2 .left))
 
 pub sound-spec : {M : Type 1} → statement M
 sound-spec =

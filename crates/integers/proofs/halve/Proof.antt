@@ -1,4 +1,4 @@
--- `integers::halve` meets its contract: the remainder that the code tests is 0 exactly where the definition's is. Assumes nothing.
+-- `integers::halve` meets its contract: the remainder that the code tests is 0 exactly where the definition's is.
 use mathlib.Core.Path.{_≡_, refl, ap, _∙_}
 use mathlib.Core.Bool.{true, false}
 use Prim.Native.Nat.{ℕ, _%_}

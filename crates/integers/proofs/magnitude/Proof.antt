@@ -1,4 +1,4 @@
--- `integers::magnitude` meets its contract. Of a negative x, x + 1 fits, and so does y, its negation, which is one less than the answer. Assumes nothing.
+-- `integers::magnitude` meets its contract. Of a negative x, x + 1 fits, and so does y, its negation, which is one less than the answer.
 use mathlib.Core.Path.{_≡_}
 use Prim.Native.Nat.{ℕ, _+_}
 use lib.Dec.{T}

@@ -8,11 +8,13 @@ use Rattle.integers.proofs.minus.Tie as tie
 
 sub-result : tie.Need-sub-result
 sub-result c =
-    rw (back (c .args .a) (c .fits .a), back (c .args .b) (c .fits .b)) (fits-small _ (omega (arith, abs-dif (c .args .a) (c .args .b), c .pre)))
+    rw (back (c .args .a) (c .fits .a), back (c .args .b) (c .fits .b))
+    (fits-small _ (omega (arith, abs-dif (c .args .a) (c .args .b), c .pre)))
 
 returns : tie.Need-returns
 returns c =
-    rw (back (c .args .a) (c .fits .a), back (c .args .b) (c .fits .b)) (back _ (fits-small _ (omega (arith, abs-dif (c .args .a) (c .args .b), c .pre))))
+    rw (back (c .args .a) (c .fits .a), back (c .args .b) (c .fits .b))
+    (back _ (fits-small _ (omega (arith, abs-dif (c .args .a) (c .args .b), c .pre))))
 
 pub minus-spec : {M : Type 1} → statement M
 minus-spec = tie.close (tie.spec sub-result returns)

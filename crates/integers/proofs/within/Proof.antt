@@ -1,4 +1,4 @@
--- `integers::within` meets its contract. Where −n is formed, n is not negative, and so −n fits. Assumes nothing.
+-- `integers::within` meets its contract. Where −n is formed, n is not negative, and so −n fits.
 use mathlib.Core.Path.{_≡_, refl, sym, _∙_}
 use mathlib.Core.Bool.{true, false}
 use lib.IntN.{pos, negℤ, _-ℤ_}

@@ -1,4 +1,4 @@
--- `layout::coefficient` meets its contract. Assumes nothing.
+-- `layout::coefficient` meets its contract.
 
 use mir.Facts.{toZ-ofZ}
 use mathlib.Core.Path.{ap, _∙_}

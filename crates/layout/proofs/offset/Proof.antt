@@ -1,4 +1,4 @@
--- `layout::offset` meets its contract. Assumes nothing.
+-- `layout::offset` meets its contract.
 use native.Mathlib.Omega.{arith}
 use Rattle.layout.specs.Format.{offset}
 use borrow.Author.Needs.{needs}

@@ -1,4 +1,4 @@
--- `layout::point` meets its contract. Assumes nothing.
+-- `layout::point` meets its contract.
 
 use mir.Facts.{toZ-ofZ}
 use mathlib.Core.Path.{ap, _∙_}

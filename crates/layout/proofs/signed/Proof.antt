@@ -1,4 +1,4 @@
--- `layout::signed` meets its contract. Assumes nothing.
+-- `layout::signed` meets its contract.
 use mathlib.Core.Path.{_≡_, sym, _∙_}
 use Prim.Native.Nat.{ℕ, _*_, _≤_, _<_, _^_}
 use native.Mathlib.Omega.{arith}
@@ -41,7 +41,9 @@ sub-result : tie.Need-sub-result
 sub-result c = less _ _ (c .before .fits .b .fits) (c .before .pre)
 
 returns-2 : tie.Need-returns-2
-returns-2 c = toZ-ofZ (less _ _ (c .before .fits .b .fits) (c .before .pre)) ∙ apart _ _ (c .before .fits .b .fits) (c .before .pre) ∙ sym (twos-high _ _ (c .if1 .left))
+returns-2 c =
+    toZ-ofZ (less _ _ (c .before .fits .b .fits) (c .before .pre)) ∙ apart _ _ (c .before .fits .b .fits) (c .before .pre)
+    ∙ sym (twos-high _ _ (c .if1 .left))
 
 pub signed-spec : {M : Type 1} → statement M
 signed-spec =

@@ -23,7 +23,11 @@ slice-write-out c =
     let l = c .before .before .loop in
     let a = c .before .before .before .args in
     rw (l .inv .1)
-    (omega (arith, length-paste (a .out .now) (a .at) (a .text .now) (l .k) (omega (arith, c .before .before .before .pre)) (l .inv .0), c .before .before .before .pre))
+    (omega (
+      arith,
+      length-paste (a .out .now) (a .at) (a .text .now) (l .k) (omega (arith, c .before .before .before .pre)) (l .inv .0),
+      c .before .before .before .pre,
+    ))
 
 loop-again : tie.Need-loop-again Inv-loop μ-loop
 loop-again c =
@@ -31,7 +35,8 @@ loop-again c =
     let a = c .before .before .before .args in (
       omega arith,
       rw (l .inv .1, add-one (l .k))
-          (paste-suc (a .out .now) (a .at) (a .text .now) (l .k) 0 (omega (arith, c .before .before .before .pre)) (c .before .loop-test .taken)),
+          (paste-suc (a .out .now) (a .at) (a .text .now) (l .k) 0 (omega (arith, c .before .before .before .pre))
+          (c .before .loop-test .taken)),
     )
 
 same-length : tie.Need-same-length Inv-loop μ-loop

@@ -12,7 +12,8 @@ returns : tie.Need-returns
 returns c =
     let a = c .before .args in (
       rw (add-one (a .line .length))
-          (take-suc-set (a .line .bytes) (a .line .length) (a .b) (omega (arith, bytes-length (a .line) (c .before .good .0), c .before .pre))),
+          (take-suc-set (a .line .bytes) (a .line .length) (a .b)
+          (omega (arith, bytes-length (a .line) (c .before .good .0), c .before .pre))),
       refl,
     )
 

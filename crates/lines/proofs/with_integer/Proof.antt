@@ -41,7 +41,12 @@ returns c =
     let m = rw e at (c .before .magnitude .ensures) in
     let n = negative (c .before .before .before) in (
       c .with-natural .ensures .0
-          ∙ rw (c .before .before .with-byte .ensures .0, m, n, append-assoc (textOf (st .args .line)) (minus ∷ []) (decimal (natAbs (st .args .z)))) refl,
+          ∙ rw (
+            c .before .before .with-byte .ensures .0,
+            m,
+            n,
+            append-assoc (textOf (st .args .line)) (minus ∷ []) (decimal (natAbs (st .args .z))),
+          ) refl,
       c .with-natural .ensures .1 ∙ rw (m, n) (omega (arith, c .before .before .with-byte .ensures .1)),
     )
 

@@ -11,14 +11,16 @@ with-text-requires : tie.Need-with-text-requires
 with-text-requires c κs =
     let st = c .before .before .before in
     let d = c .before .decimal in
-    let e : take (d .result) (d .last .1 .0) ≡ decimal (st .args .n) = d .ensures .1 .1 ∙ digits-decimal (st .args .n) (d .result) (d .ensures .1 .0) in
+    let e : take (d .result) (d .last .1 .0) ≡ decimal (st .args .n) = d .ensures .1 .1
+    ∙ digits-decimal (st .args .n) (d .result) (d .ensures .1 .0) in
     rw e (st .pre)
 
 returns : tie.Need-returns
 returns c =
     let st = c .before .before .before .before in
     let d = c .before .before .decimal in
-    let e : take (d .result) (d .last .1 .0) ≡ decimal (st .args .n) = d .ensures .1 .1 ∙ digits-decimal (st .args .n) (d .result) (d .ensures .1 .0) in
+    let e : take (d .result) (d .last .1 .0) ≡ decimal (st .args .n) = d .ensures .1 .1
+    ∙ digits-decimal (st .args .n) (d .result) (d .ensures .1 .0) in
     rw e at (c .with-text .ensures)
 
 pub with-natural-spec : {M : Type 1} → statement M

@@ -20,7 +20,8 @@ returns c =
     let at = st .args .line .length in
     let text = st .args .text .now in (
       ap (take (at + length text)) (c .before .copy-at .ensures)
-          ∙ take-paste (st .args .line .bytes) at text (length text) (omega (arith, bytes-length (st .args .line) (st .good .0), st .pre)) (omega arith)
+          ∙ take-paste (st .args .line .bytes) at text (length text) (omega (arith, bytes-length (st .args .line) (st .good .0), st .pre))
+          (omega arith)
           ∙ rw (take-length text) refl,
       refl,
     )

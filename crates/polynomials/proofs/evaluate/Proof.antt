@@ -91,7 +91,9 @@ sub-i : tie.Need-sub-i Inv-loop μ-loop
 sub-i c = omega arith
 
 mul-v : tie.Need-mul-v Inv-loop μ-loop
-mul-v c = product-fits _ _ (c .before .before .pre .0) (c .before .before .pre .1) (c .before .loop .i) (c .before .loop .inv .0) (omega arith) (c .before .loop .v) (c .before .before .fits .x) (c .before .loop .inv .1)
+mul-v c =
+    product-fits _ _ (c .before .before .pre .0) (c .before .before .pre .1) (c .before .loop .i) (c .before .loop .inv .0) (omega arith)
+    (c .before .loop .v) (c .before .before .fits .x) (c .before .loop .inv .1)
 
 mul-v-2 : tie.Need-mul-v-2 Inv-loop μ-loop
 mul-v-2 c = omega arith
@@ -100,13 +102,21 @@ element-copy-out-v : tie.Need-element-copy-out-v Inv-loop μ-loop
 element-copy-out-v c = omega arith
 
 add-v : tie.Need-add-v Inv-loop μ-loop
-add-v c = both-fits _ _ (c .before .before .before .pre .0) (c .before .before .before .pre .1) (c .before .before .loop .i) (c .before .before .loop .inv .0) (omega arith) (c .before .before .loop .v) (c .before .before .before .fits .x) (c .before .before .loop .inv .1)
+add-v c =
+    both-fits _ _ (c .before .before .before .pre .0) (c .before .before .before .pre .1) (c .before .before .loop .i)
+    (c .before .before .loop .inv .0) (omega arith) (c .before .before .loop .v) (c .before .before .before .fits .x)
+    (c .before .before .loop .inv .1)
 
 loop-less : tie.Need-loop-less Inv-loop μ-loop
 loop-less c = omega arith
 
 loop-again : tie.Need-loop-again Inv-loop μ-loop
-loop-again c = (omega arith, taken _ _ (c .before .before .before .pre .0) (c .before .before .before .pre .1) (c .before .before .loop .i) (c .before .before .loop .inv .0) (omega arith) (c .before .before .loop .v) (c .before .before .before .fits .x) (c .before .before .loop .inv .1))
+loop-again c = (
+  omega arith,
+  taken _ _ (c .before .before .before .pre .0) (c .before .before .before .pre .1) (c .before .before .loop .i)
+      (c .before .before .loop .inv .0) (omega arith) (c .before .before .loop .v) (c .before .before .before .fits .x)
+      (c .before .before .loop .inv .1),
+)
 
 returns : tie.Need-returns Inv-loop μ-loop
 returns c = whole _ _ (c .before .loop .i) (c .before .loop .v) (c .before .before .fits .x) (omega arith) (c .before .loop .inv .1)

@@ -19,7 +19,8 @@ returns-2 : tie.Need-returns-2
 returns-2 c =
     let a = c .before .before .before .before .before in
     let b = c .before .before .before .k .given in
-    not-shown _ (a .before .args .card) (a .before .args .run) (a .before .args .a .0) _ _ (a .ask .ensures) (b .0 .0) (b .1) (made _ _ _ _ _ _ (c .with-line .ensures) (c .before .refusal-line .ensures))
+    not-shown _ (a .before .args .card) (a .before .args .run) (a .before .args .a .0) _ _ (a .ask .ensures) (b .0 .0) (b .1)
+    (made _ _ _ _ _ _ (c .with-line .ensures) (c .before .refusal-line .ensures))
 
 pub next-question-spec : {M : Type 1} → statement M
 next-question-spec =

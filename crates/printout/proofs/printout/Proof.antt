@@ -26,7 +26,8 @@ returns-2 : tie.Need-returns-2
 returns-2 c =
     let st = c .before .before .before .before .before .before .before .before .before .before .before in
     let e = c .before .before .before .before .before .before .before .put-lines .ensures in
-    placed-fits _ (st .args .out .now) _ (e .1) _ _ (e .0) (c .before .before .copy-at .ensures) (c .before .before .before .before .before .if1 .left)
+    placed-fits _ (st .args .out .now) _ (e .1) _ _ (e .0) (c .before .before .copy-at .ensures)
+    (c .before .before .before .before .before .if1 .left)
 
 pub printout-spec : {M : Type 1} → statement M
 printout-spec =

@@ -12,7 +12,8 @@ use Rattle.printout.proofs.put_line.Tie as tie
 
 -- the line's bytes are there
 there : (c : tie.Start) → length (take (c .args .line .length) (c .args .line .bytes)) ≡ c .args .line .length
-there c = length-take-le (c .args .line .length) (c .args .line .bytes) (omega (arith, bytes-length (c .args .line) (c .good .0), c .pre .0))
+there c =
+    length-take-le (c .args .line .length) (c .args .line .bytes) (omega (arith, bytes-length (c .args .line) (c .good .0), c .pre .0))
 
 array-share-prefix-bytes : tie.Need-array-share-prefix-bytes
 array-share-prefix-bytes c =

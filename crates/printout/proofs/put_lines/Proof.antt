@@ -17,7 +17,8 @@ use Rattle.printout.proofs.put_lines.Tie as tie
 
 abbrev Inv-loop : tie.InvT-loop
 Inv-loop card out₀ progress₀ at₀ k₀ out progress at k =
-    (k ≤ mostLines) × (at ≤ lineRoom * k) × (length out ≡ mostText) × (progressOf progress ≡ leftAfter k (begunOf card)) × (take at out ≡ textAfter k (begunOf card))
+    (k ≤ mostLines) × (at ≤ lineRoom * k) × (length out ≡ mostText) × (progressOf progress ≡ leftAfter k (begunOf card))
+    × (take at out ≡ textAfter k (begunOf card))
 
 abbrev μ-loop : tie.MeasureT-loop
 μ-loop card out₀ progress₀ at₀ k₀ out progress at k = mostLines - k
@@ -29,8 +30,10 @@ loop-holds c =
 
 put-line-requires : tie.Need-put-line-requires Inv-loop μ-loop
 put-line-requires c κs =
-    let l = c .before .before .before .before .before .loop in
-    (c .before .before .before .next-line .ensures .fits, omega (arith, l .inv .0, l .inv .1, l .inv .2, c .before .before .before .before .loop-test .taken))
+    let l = c .before .before .before .before .before .loop in (
+      c .before .before .before .next-line .ensures .fits,
+      omega (arith, l .inv .0, l .inv .1, l .inv .2, c .before .before .before .before .loop-test .taken),
+    )
 
 add-k : tie.Need-add-k Inv-loop μ-loop
 add-k c =
@@ -48,7 +51,8 @@ loop-again c =
       p .kept .1 .0 ∙ l .inv .2,
       rw (add-one (l .k)) (n .ensures .left ∙ left-more (l .k) t (progressOf (l .progress)) (l .inv .3)),
       rw (add-one (l .k))
-          (p .ensures .0 ∙ ap (λ (x : List ℕ). take (l .at) (l .out) ++ x) (n .ensures .text) ∙ text-more (l .k) t (progressOf (l .progress)) (take (l .at) (l .out)) (l .inv .3) (l .inv .4)),
+          (p .ensures .0 ∙ ap (λ (x : List ℕ). take (l .at) (l .out) ++ x) (n .ensures .text)
+          ∙ text-more (l .k) t (progressOf (l .progress)) (take (l .at) (l .out)) (l .inv .3) (l .inv .4)),
     )
 
 same-length : tie.Need-same-length Inv-loop μ-loop

@@ -26,7 +26,8 @@ returns-2 c =
     let e = toZ-ofZ w64 (st .args .z) (st .fits .z) in
     let h = rw e at (a .answer .ensures .by-rules) in
     let l = rw e at (c .before .question-line2 .ensures) in
-    ends _ _ (st .args .run) _ (st .args .a .0) (st .args .z) _ (c .before .before .enum-told .given .1) h (made _ _ _ _ _ _ (c .with-line2 .ensures) l)
+    ends _ _ (st .args .run) _ (st .args .a .0) (st .args .z) _ (c .before .before .enum-told .given .1) h
+    (made _ _ _ _ _ _ (c .with-line2 .ensures) l)
 
 returns-3 : tie.Need-returns-3
 returns-3 c =
@@ -34,7 +35,8 @@ returns-3 c =
     let st = a .before in
     let h = rw (toZ-ofZ w64 (st .args .z) (st .fits .z)) at (a .answer .ensures .by-rules) in
     let b = c .before .before .before .step2 .given in
-    refuses _ _ (st .args .run) _ (st .args .a .0) (st .args .z) _ (b .0 .0) (b .1) h (made _ _ _ _ _ _ (c .with-line3 .ensures) (c .before .refusal-line .ensures))
+    refuses _ _ (st .args .run) _ (st .args .a .0) (st .args .z) _ (b .0 .0) (b .1) h
+    (made _ _ _ _ _ _ (c .with-line3 .ensures) (c .before .refusal-line .ensures))
 
 pub take-answer-spec : {M : Type 1} → statement M
 take-answer-spec =

@@ -4,9 +4,10 @@ use mathlib.Core.Bool.{false}
 use native.Mathlib.Omega.{arith}
 use borrow.Author.Needs.{needs, sfits-of}
 use mir.Facts.{toZ-ofZ}
-use Rattle.query.specs.declared.Answer.the-variants as Answer
+use Rattle.query.specs.declared.Queried.the-variants as Answer
 use Rattle.query.specs.Opened.{unlimited}
-use Rattle.query.proofs.Opening.{answer-foreign, answer-own, answer-limits, answer-product, answer-number, few, many, crowded, limits}
+use Rattle.query.proofs.Opening.{answer-foreign, answer-own, answer-limits, answer-product, answer-number, few, many, crowded}
+use Rattle.query.proofs.Opening.{limits}
 use Rattle.query.proofs.ask.Statement.{statement}
 use Rattle.query.proofs.ask.Tie as tie
 
@@ -58,7 +59,8 @@ returns-7 : tie.Need-returns-7
 returns-7 c =
     let s = c .before .before .before .before .before .before .before .before .before .before .before .before in
     let w = within (c .before .before .before .before) in
-    ap Answer.Number (toZ-ofZ (sfits-of (c .sum .ok)) ∙ c .sum .ensures) ∙ answer-number (s .args .card) (s .args .a .0) (w .0) (w .1) (omega arith)
+    ap Answer.Number (toZ-ofZ (sfits-of (c .sum .ok)) ∙ c .sum .ensures)
+    ∙ answer-number (s .args .card) (s .args .a .0) (w .0) (w .1) (omega arith)
 
 pub ask-spec : {M : Type 1} → statement M
 ask-spec =

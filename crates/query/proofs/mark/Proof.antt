@@ -10,15 +10,15 @@ use mir.Syntax.{w64}
 use mir.Val.{SFits, toZ, ofZ}
 use mir.Facts.{toZ-ofZ}
 use Rattle.refusals.specs.Limits.{mostPoints}
-use Rattle.signs.specs.Signs.{sign-digit}
+use Rattle.signs.specs.Signs.{signDigit}
 use Rattle.signs.specs.Bits.{bitOf}
-use Rattle.layout.specs.Format.{polynomials, points, offset, points-at, point}
+use Rattle.layout.specs.Format.{polynomials, pointCount, offset, pointsAt, point}
 use Rattle.polynomials.specs.Values.{evaluate}
-use Rattle.layout.specs.Values.{value-of, polynomial}
+use Rattle.layout.specs.Values.{valueOf, coefficients}
 use Rattle.layout.specs.Contents.{contentsOf}
 use Rattle.layout.proofs.Contents.{points-long, map-point-at}
 use Rattle.card.specs.Sound.{Sound}
-use Rattle.card.proofs.Places.{offset-place, body-place, body-within, point-place, point-within, point-value}
+use Rattle.card.proofs.Positions.{offset-place, body-place, body-within, point-place, point-within, point-value}
 use Rattle.query.specs.Opened.{wordOf, pointBits}
 use Rattle.query.proofs.Words.{word-none, word-turn, word-room}
 use Rattle.query.proofs.Opening.{bits-small}
@@ -35,35 +35,38 @@ Inv-loop card j from n p positive₀ negative₀ k₀ positive negative k =
 abbrev μ-loop : tie.MeasureT-loop
 μ-loop card j from n p positive₀ negative₀ k₀ positive negative k = k
 
-bits-long : (c : List ℕ) (d j : ℕ) → length (bits c d j) ≡ points c
+bits-long : (c : List ℕ) (d j : ℕ) → length (bits c d j) ≡ pointCount c
 bits-long c d j = length-map (contentsOf c .points) _ ∙ points-long c
 
 -- one turn: the bit of point k − 1, by the digit t of the sign there, for which there is room
 module _ (c : List ℕ) (d j k x : ℕ) (h : 0 < k) (e : x ≡ wordOf (drop k (bits c d j))) where
-  turned : (t b : ℕ) → k ≤ points c → b ≡ bitOf t d → t ≡ sign-digit (value-of c j (k - 1)) → 2 * x + b ≡ wordOf (drop (k - 1) (bits c d j))
+  turned : (t b : ℕ) → k ≤ pointCount c → b ≡ bitOf t d → t ≡ signDigit (valueOf c j (k - 1)) → 2 * x + b
+      ≡ wordOf (drop (k - 1) (bits c d j))
   turned t b g eb et =
       word-turn (bits c d j) k x b h (omega (arith, bits-long c d j))
       (eb ∙ ap (λ (y : ℕ). bitOf y d) et
-      ∙ sym (map-point-at c (λ y. bitOf (sign-digit (contentsOf c .value j y)) d) (k - 1) 0 (omega arith))) e
+      ∙ sym (map-point-at c (λ y. bitOf (signDigit (contentsOf c .value j y)) d) (k - 1) 0 (omega arith))) e
 
-  roomy : points c ≤ mostPoints → 2 * x + 1 < 2 ^ 64
+  roomy : pointCount c ≤ mostPoints → 2 * x + 1 < 2 ^ 64
   roomy g = word-room (bits c d j) (bits-small (contentsOf c) d j) k x h e (omega (arith, bits-long c d j))
 
 -- ---- what a turn knows: its point, and the digit of the sign there
 
-module _ (c : List ℕ) (sound : Sound c) (j from k : ℕ) (x : ℤ) (h : k < points c) (ef : from ≡ points-at c) (ex : x ≡ point c from k) (f : SFits w64 x) where
+module _ (c : List ℕ) (sound : Sound c) (j from k : ℕ) (x : ℤ) (h : k < pointCount c) (ef : from ≡ pointsAt c) (ex : x ≡ point c from k)
+    (f : SFits w64 x) where
   within : natAbs (toZ w64 (ofZ w64 x)) ≤ 128
   within = rw (toZ-ofZ f, ex, ef) (point-within c sound k h)
 
-  digit-is : (p : List ℤ) (at d : ℕ) → j < polynomials c → p ≡ polynomial c at → at ≡ offset c j → d ≡ sign-digit (evaluate p (toZ w64 (ofZ w64 x)))
-      → d ≡ sign-digit (value-of c j k)
-  digit-is p at d b ep ea e = (rw (toZ-ofZ f, ex, ef, ep, ea) at e) ∙ ap sign-digit (point-value c sound j k b)
+  digit-is : (p : List ℤ) (at d : ℕ) → j < polynomials c → p ≡ coefficients c at → at ≡ offset c j → d
+      ≡ signDigit (evaluate p (toZ w64 (ofZ w64 x)))
+      → d ≡ signDigit (valueOf c j k)
+  digit-is p at d b ep ea e = (rw (toZ-ofZ f, ex, ef, ep, ea) at e) ∙ ap signDigit (point-value c sound j k b)
 
 offset-requires : tie.Need-offset-requires Inv-loop μ-loop
 offset-requires c κs = let s = c .before in offset-place _ (s .pre .0) (s .args .j) (omega arith)
 
-polynomial-requires : tie.Need-polynomial-requires Inv-loop μ-loop
-polynomial-requires c κs = let s = c .before .before in rw (c .offset .ensures) (body-place _ (s .pre .0) (s .args .j) (s .pre .1))
+coefficients-requires : tie.Need-coefficients-requires Inv-loop μ-loop
+coefficients-requires c κs = let s = c .before .before in rw (c .offset .ensures) (body-place _ (s .pre .0) (s .args .j) (s .pre .1))
 
 loop-holds : tie.Need-loop-holds Inv-loop μ-loop
 loop-holds c =
@@ -88,13 +91,14 @@ sign-requires : tie.Need-sign-requires Inv-loop μ-loop
 sign-requires c κs =
     let s = c .before .before .before .before .before .before .before in
     let p = c .before .before .before .before in (
-      rw (p .polynomial .ensures, p .before .offset .ensures) (body-within _ (s .pre .0) (s .args .j) (s .pre .1)),
-      within _ (s .pre .0) (s .args .j) _ (c .before .before .before .loop .k - 1) _ (omega arith) (s .pre .2) (c .point .ensures) (sfits-of (c .point .ok)),
+      rw (p .coefficients .ensures, p .before .offset .ensures) (body-within _ (s .pre .0) (s .args .j) (s .pre .1)),
+      within _ (s .pre .0) (s .args .j) _ (c .before .before .before .loop .k - 1) _ (omega arith) (s .pre .2) (c .point .ensures)
+          (sfits-of (c .point .ok)),
     )
 
 -- the digit of the sign at the turn's point, and room for its bit
 record Turn (c : List ℕ) (j k d positive negative : ℕ) : Type 0 where
-  pub digit : d ≡ sign-digit (value-of c j (k - 1))
+  pub digit : d ≡ signDigit (valueOf c j (k - 1))
   pub room : (2 * positive + 1 < 2 ^ 64) × (2 * negative + 1 < 2 ^ 64)
 
 turn : (c : tie.After-sign Inv-loop μ-loop) →
@@ -111,7 +115,9 @@ turn c =
     let j = s .args .j in
     let m = s .pre .0 .n-most in
     record {
-      digit = digit-is _ (s .pre .0) (s .args .j) _ (l .k - 1) _ (omega arith) (s .pre .2) (x .ensures) (sfits-of (x .ok)) _ _ _ (s .pre .1) (p .polynomial .ensures) (p .before .offset .ensures) (c .sign .ensures);
+      digit =
+          digit-is _ (s .pre .0) (s .args .j) _ (l .k - 1) _ (omega arith) (s .pre .2) (x .ensures) (sfits-of (x .ok)) _ _ _ (s .pre .1)
+          (p .coefficients .ensures) (p .before .offset .ensures) (c .sign .ensures);
       room = (roomy w 1 j (l .k) _ h (l .inv .1) m, roomy w 2 j (l .k) _ h (l .inv .2) m);
     }
 
@@ -150,7 +156,7 @@ loop-again c =
     let h : 0 < l .k = omega arith in
     let w = s .args .card .now in
     let j = s .args .j in
-    let g : l .k ≤ points w = omega arith in (
+    let g : l .k ≤ pointCount w = omega arith in (
       omega arith,
       turned w 1 j (l .k) (l .positive) h (l .inv .1) _ _ g (c .before .bit .ensures .0) (t .digit),
       turned w 2 j (l .k) (l .negative) h (l .inv .2) _ _ g (c .bit2 .ensures .0) (t .digit),
@@ -169,7 +175,7 @@ mark-spec =
     Inv-loop
     μ-loop
     offset-requires
-    polynomial-requires
+    coefficients-requires
     loop-holds
     sub-k
     point-requires

@@ -2,7 +2,7 @@
 use mathlib.Core.Path.{ap, _∙_}
 use borrow.Author.Needs.{needs}
 use Rattle.query.specs.declared.Opened.{Opened}
-use Rattle.query.specs.Opened.{answer}
+use Rattle.query.specs.Opened.{openedAnswer}
 use Rattle.query.proofs.Opening.{answer-opened}
 use Rattle.query.proofs.query.Statement.{statement}
 use Rattle.query.proofs.query.Tie as tie
@@ -14,7 +14,9 @@ ask-requires : tie.Need-ask-requires
 ask-requires c κs = search needs
 
 returns : tie.Need-returns
-returns c = c .ask .ensures ∙ ap (λ (o : Opened). answer o (c .before .before .before .args .a .0)) (c .before .open .ensures) ∙ answer-opened _ _
+returns c =
+    c .ask .ensures ∙ ap (λ (o : Opened). openedAnswer o (c .before .before .before .args .a .0)) (c .before .open .ensures)
+    ∙ answer-opened _ _
 
 pub query-spec : {M : Type 1} → statement M
 query-spec = tie.close (tie.spec open-requires ask-requires returns)

@@ -28,15 +28,21 @@ three-times c =
     omega (arith, pow-suc 3 (l .j - 1))
 
 -- the digit's share, and what stays
-taken-off : (c : tie.After-odd-by Inv-loop μ-loop) → c .before .before .before .before .before .digit .result * c .before .before .before .before .before .before .power .result
-    + c .before .before .before .before .before .before .before .before .loop .rest % 3 ^ (c .before .before .before .before .before .before .before .before .loop .j - 1) ≡ c .before .before .before .before .before .before .before .before .loop .rest
-taken-off c = rw (c .before .before .before .before .before .digit .ensures, c .before .before .before .before .before .before .power .ensures) (div-add-mod' (c .before .before .before .before .before .before .before .before .loop .rest) (3 ^ (c .before .before .before .before .before .before .before .before .loop .j - 1)))
+taken-off : (c : tie.After-odd-by Inv-loop μ-loop)
+    → c .before .before .before .before .before .digit .result * c .before .before .before .before .before .before .power .result
+    + c .before .before .before .before .before .before .before .before .loop .rest % 3 ^
+    (c .before .before .before .before .before .before .before .before .loop .j - 1)
+    ≡ c .before .before .before .before .before .before .before .before .loop .rest
+taken-off c =
+    rw (c .before .before .before .before .before .digit .ensures, c .before .before .before .before .before .before .power .ensures)
+    (div-add-mod' (c .before .before .before .before .before .before .before .before .loop .rest)
+    (3 ^ (c .before .before .before .before .before .before .before .before .loop .j - 1)))
 
-first-requires : tie.Need-first-requires Inv-loop μ-loop
-first-requires c κs = search needs
+first-points-requires : tie.Need-first-points-requires Inv-loop μ-loop
+first-points-requires c κs = search needs
 
 loop-holds : tie.Need-loop-holds Inv-loop μ-loop
-loop-holds c = (omega arith, c .before .pre .2, rw (c .first .ensures) (kept-none (c .before .args .t1) (c .before .args .a)))
+loop-holds c = (omega arith, c .before .pre .2, rw (c .first-points .ensures) (kept-none (c .before .args .t1) (c .before .args .a)))
 
 sub-j : tie.Need-sub-j Inv-loop μ-loop
 sub-j c = search needs
@@ -74,7 +80,13 @@ odd-by-requires c κs = tt
 mul-rest : tie.Need-mul-rest Inv-loop μ-loop
 mul-rest c =
     let l = c .before .before .before .before .before .before .before .before .loop in
-    omega (arith, taken-off c, pow-le-pow-right {n = 3} (omega arith) {i = l .j} {j = 8} (omega (arith, l .inv .0, c .before .before .before .before .before .before .before .before .before .before .pre .0)), l .inv .1)
+    omega (
+      arith,
+      taken-off c,
+      pow-le-pow-right {n = 3} (omega arith) {i = l .j} {j = 8}
+          (omega (arith, l .inv .0, c .before .before .before .before .before .before .before .before .before .before .pre .0)),
+      l .inv .1,
+    )
 
 sub-rest : tie.Need-sub-rest Inv-loop μ-loop
 sub-rest c = omega (arith, taken-off c)
@@ -88,7 +100,9 @@ loop-again c =
     let l = c .before .before .before .before .before .before .before .before .loop in (
       omega arith,
       omega (arith, taken-off c, mod-lt (l .rest) {m = 3 ^ (l .j - 1)} (one-le-pow (l .j - 1) 3 (omega arith))),
-      kept-off (s .args .t1) (s .args .a) (l .j - 1) (l .j) (l .rest) _ _ (l .left) (l .odd) _ _ (omega arith) (l .inv .1) (c .before .before .before .before .before .before .power .ensures) (c .before .before .before .before .before .digit .ensures) (c .before .before .left-by .ensures) (c .odd-by .ensures) (l .inv .2),
+      kept-off (s .args .t1) (s .args .a) (l .j - 1) (l .j) (l .rest) _ _ (l .left) (l .odd) _ _ (omega arith) (l .inv .1)
+          (c .before .before .before .before .before .before .power .ensures) (c .before .before .before .before .before .digit .ensures)
+          (c .before .before .left-by .ensures) (c .odd-by .ensures) (l .inv .2),
     )
 
 balance-requires : tie.Need-balance-requires Inv-loop μ-loop
@@ -98,7 +112,8 @@ returns : tie.Need-returns Inv-loop μ-loop
 returns c =
     let s = c .before .before .before .before in
     let l = c .before .before .loop in
-    toZ-ofZ (sfits-of (c .balance .ok)) ∙ c .balance .ensures ∙ summed-words (s .args .t1) (s .args .a) (l .rest) (l .j) (l .left) (l .odd) (l .inv .2) (omega arith)
+    toZ-ofZ (sfits-of (c .balance .ok)) ∙ c .balance .ensures
+    ∙ summed-words (s .args .t1) (s .args .a) (l .rest) (l .j) (l .left) (l .odd) (l .inv .2) (omega arith)
 
 pub sum-spec : {M : Type 1} → statement M
 sum-spec =
@@ -106,7 +121,7 @@ sum-spec =
     (tie.spec
     Inv-loop
     μ-loop
-    first-requires
+    first-points-requires
     loop-holds
     sub-j
     power-requires

@@ -21,10 +21,14 @@ array-set-from-wide : tie.Need-array-set-from-wide
 array-set-from-wide c = search needs
 
 slice-aggregate-rows-after : tie.Need-slice-aggregate-rows-after
-slice-aggregate-rows-after c = let st = c .before .before .before .before in sym (length-take-le (st .args .rows) (st .args .patterns .now) (st .pre .1))
+slice-aggregate-rows-after c =
+    let st = c .before .before .before .before in
+    sym (length-take-le (st .args .rows) (st .args .patterns .now) (st .pre .1))
 
 slice-aggregate-rows-after-2 : tie.Need-slice-aggregate-rows-after-2
-slice-aggregate-rows-after-2 c = let st = c .before .before .before .before .before in sym (length-take-le (st .args .rows) (st .args .counts .now) (st .pre .2))
+slice-aggregate-rows-after-2 c =
+    let st = c .before .before .before .before .before in
+    sym (length-take-le (st .args .rows) (st .args .counts .now) (st .pre .2))
 
 add-wide : tie.Need-add-wide
 add-wide c = search needs

@@ -23,31 +23,59 @@ returns-3 : tie.Need-returns-3
 unfolding inLimits
 returns-3 c =
     let a = c .before .before .before .args in
-    rw (le-leb 1 (a .s) (c .before .before .if1 .left), le-leb (a .s) 8 (c .before .if2 .left), lt-leb (a .round) (a .s) (c .if3 .taken)) refl
+    rw (le-leb 1 (a .s) (c .before .before .if1 .left), le-leb (a .s) 8 (c .before .if2 .left), lt-leb (a .round) (a .s) (c .if3 .taken))
+    refl
 
 returns-4 : tie.Need-returns-4
 unfolding inLimits
 returns-4 c =
     let a = c .before .before .before .before .args in
-    rw (le-leb 1 (a .s) (c .before .before .before .if1 .left), le-leb (a .s) 8 (c .before .before .if2 .left), le-leb (a .round) (a .s) (c .before .if3 .left), lt-leb (a .n) 64 (c .if4 .taken)) refl
+    rw (
+      le-leb 1 (a .s) (c .before .before .before .if1 .left),
+      le-leb (a .s) 8 (c .before .before .if2 .left),
+      le-leb (a .round) (a .s) (c .before .if3 .left),
+      lt-leb (a .n) 64 (c .if4 .taken),
+    ) refl
 
 returns-5 : tie.Need-returns-5
 unfolding inLimits
 returns-5 c =
     let a = c .before .before .before .before .before .args in
-    rw (le-leb 1 (a .s) (c .before .before .before .before .if1 .left), le-leb (a .s) 8 (c .before .before .before .if2 .left), le-leb (a .round) (a .s) (c .before .before .if3 .left), le-leb (a .n) 64 (c .before .if4 .left), lt-leb (a .rows) 64 (c .if5 .taken)) refl
+    rw (
+      le-leb 1 (a .s) (c .before .before .before .before .if1 .left),
+      le-leb (a .s) 8 (c .before .before .before .if2 .left),
+      le-leb (a .round) (a .s) (c .before .before .if3 .left),
+      le-leb (a .n) 64 (c .before .if4 .left),
+      lt-leb (a .rows) 64 (c .if5 .taken),
+    ) refl
 
 returns-6 : tie.Need-returns-6
 unfolding inLimits
 returns-6 c =
     let a = c .before .before .before .before .before .before .before .args in
-    rw (le-leb 1 (a .s) (c .before .before .before .before .before .before .if1 .left), le-leb (a .s) 8 (c .before .before .before .before .before .if2 .left), le-leb (a .round) (a .s) (c .before .before .before .before .if3 .left), le-leb (a .n) 64 (c .before .before .before .if4 .left), le-leb (a .rows) 64 (c .before .before .if5 .left), eq-eqb (a .round) 0 (c .before .if6 .taken), eq-eqb (a .answered) 0 (c .if7 .taken)) refl
+    rw (
+      le-leb 1 (a .s) (c .before .before .before .before .before .before .if1 .left),
+      le-leb (a .s) 8 (c .before .before .before .before .before .if2 .left),
+      le-leb (a .round) (a .s) (c .before .before .before .before .if3 .left),
+      le-leb (a .n) 64 (c .before .before .before .if4 .left),
+      le-leb (a .rows) 64 (c .before .before .if5 .left),
+      eq-eqb (a .round) 0 (c .before .if6 .taken),
+      eq-eqb (a .answered) 0 (c .if7 .taken),
+    ) refl
 
 returns-7 : tie.Need-returns-7
 unfolding inLimits
 returns-7 c =
     let a = c .before .before .before .before .before .before .before .args in
-    rw (le-leb 1 (a .s) (c .before .before .before .before .before .before .if1 .left), le-leb (a .s) 8 (c .before .before .before .before .before .if2 .left), le-leb (a .round) (a .s) (c .before .before .before .before .if3 .left), le-leb (a .n) 64 (c .before .before .before .if4 .left), le-leb (a .rows) 64 (c .before .before .if5 .left), eq-eqb (a .round) 0 (c .before .if6 .taken), ne-eqb (a .answered) 0 (c .if7 .left)) refl
+    rw (
+      le-leb 1 (a .s) (c .before .before .before .before .before .before .if1 .left),
+      le-leb (a .s) 8 (c .before .before .before .before .before .if2 .left),
+      le-leb (a .round) (a .s) (c .before .before .before .before .if3 .left),
+      le-leb (a .n) 64 (c .before .before .before .if4 .left),
+      le-leb (a .rows) 64 (c .before .before .if5 .left),
+      eq-eqb (a .round) 0 (c .before .if6 .taken),
+      ne-eqb (a .answered) 0 (c .if7 .left),
+    ) refl
 
 mul-if8 : tie.Need-mul-if8
 mul-if8 c = search needs
@@ -62,13 +90,29 @@ returns-8 : tie.Need-returns-8
 unfolding inLimits
 returns-8 c =
     let a = c .before .before .before .before .before .before .before .args in
-    rw (le-leb 1 (a .s) (c .before .before .before .before .before .before .if1 .left), le-leb (a .s) 8 (c .before .before .before .before .before .if2 .left), le-leb (a .round) (a .s) (c .before .before .before .before .if3 .left), le-leb (a .n) 64 (c .before .before .before .if4 .left), le-leb (a .rows) 64 (c .before .before .if5 .left), ne-eqb (a .round) 0 (c .before .if6 .left), lt-ltb (a .answered) (2 * a .rows) (c .if8 .taken)) refl
+    rw (
+      le-leb 1 (a .s) (c .before .before .before .before .before .before .if1 .left),
+      le-leb (a .s) 8 (c .before .before .before .before .before .if2 .left),
+      le-leb (a .round) (a .s) (c .before .before .before .before .if3 .left),
+      le-leb (a .n) 64 (c .before .before .before .if4 .left),
+      le-leb (a .rows) 64 (c .before .before .if5 .left),
+      ne-eqb (a .round) 0 (c .before .if6 .left),
+      lt-ltb (a .answered) (2 * a .rows) (c .if8 .taken),
+    ) refl
 
 returns-9 : tie.Need-returns-9
 unfolding inLimits
 returns-9 c =
     let a = c .before .before .before .before .before .before .before .args in
-    rw (le-leb 1 (a .s) (c .before .before .before .before .before .before .if1 .left), le-leb (a .s) 8 (c .before .before .before .before .before .if2 .left), le-leb (a .round) (a .s) (c .before .before .before .before .if3 .left), le-leb (a .n) 64 (c .before .before .before .if4 .left), le-leb (a .rows) 64 (c .before .before .if5 .left), ne-eqb (a .round) 0 (c .before .if6 .left), le-ltb (a .answered) (2 * a .rows) (c .if8 .left)) refl
+    rw (
+      le-leb 1 (a .s) (c .before .before .before .before .before .before .if1 .left),
+      le-leb (a .s) 8 (c .before .before .before .before .before .if2 .left),
+      le-leb (a .round) (a .s) (c .before .before .before .before .if3 .left),
+      le-leb (a .n) 64 (c .before .before .before .if4 .left),
+      le-leb (a .rows) 64 (c .before .before .if5 .left),
+      ne-eqb (a .round) 0 (c .before .if6 .left),
+      le-ltb (a .answered) (2 * a .rows) (c .if8 .left),
+    ) refl
 
 pub in-limits-spec : {M : Type 1} → statement M
 in-limits-spec =

@@ -33,7 +33,8 @@ returns c =
     let p = st .pre in
     let L = take (st .args .n) (st .args .patterns .now) in
     let A = adapted (st .args .i) L in
-    let n : st .args .n ≡ length A = sym (as-many (st .args .i) L (p .3) (p .4) ∙ length-take-le (st .args .n) (st .args .patterns .now) (p .2)) in
+    let n : st .args .n ≡ length A = sym (as-many (st .args .i) L (p .3) (p .4)
+    ∙ length-take-le (st .args .n) (st .args .patterns .now) (p .2)) in
     rw (c .before .adapted .ensures .1, shift-none A) (take-sets A _ (st .args .n) n (p .1))
 
 pub products-of-spec : {M : Type 1} → statement M

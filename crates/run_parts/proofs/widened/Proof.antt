@@ -15,7 +15,8 @@ use Rattle.run_parts.proofs.widened.Statement.{statement}
 use Rattle.run_parts.proofs.widened.Tie as tie
 
 -- one more is copied
-copied : (k : ℕ) (l l′ : List ℤ) (x : ℤ) → k < length l → k < length l′ → x ≡ getD l′ k (pos 0) → take k l ≡ take k l′ → take (k + 1) (set l k x) ≡ take (k + 1) l′
+copied : (k : ℕ) (l l′ : List ℤ) (x : ℤ) → k < length l → k < length l′ → x ≡ getD l′ k (pos 0) → take k l ≡ take k l′
+    → take (k + 1) (set l k x) ≡ take (k + 1) l′
 copied k l l′ x h g e t = rw (add-one k, take-suc-set l k x h, take-suc l′ k (pos 0) g, t, e) refl
 
 abbrev Inv-loop : tie.InvT-loop
@@ -28,7 +29,8 @@ loop-holds : tie.Need-loop-holds Inv-loop μ-loop
 loop-holds c = (omega arith, refl, refl)
 
 -- the answer at k has 8 bits
-narrow : (c : tie.After-wide Inv-loop μ-loop) → SFits w8 (getD (c .before .before .before .args .answers .now) (c .before .before .loop .k) (pos 0))
+narrow : (c : tie.After-wide Inv-loop μ-loop)
+    → SFits w8 (getD (c .before .before .before .args .answers .now) (c .before .before .loop .k) (pos 0))
 narrow c = record { sfits = c .wide .given }
 
 shared-slice-copy-out-wide : tie.Need-shared-slice-copy-out-wide Inv-loop μ-loop
@@ -56,8 +58,11 @@ loop-again c =
     let p = c .before .before .before .pre in
     let h = c .before .loop-test .taken in
     let f = narrow c in
-    let w : SFits w64 (getD (a .answers .now) (l .k) (pos 0)) = sfits-widen tt f in
-    (omega arith, simp length-set (l .inv .1), copied (l .k) (l .wide) (a .answers .now) _ (omega arith) (omega arith) (rw (toZ-ofZ f) (toZ-ofZ w)) (l .inv .2))
+    let w : SFits w64 (getD (a .answers .now) (l .k) (pos 0)) = sfits-widen tt f in (
+      omega arith,
+      simp length-set (l .inv .1),
+      copied (l .k) (l .wide) (a .answers .now) _ (omega arith) (omega arith) (rw (toZ-ofZ f) (toZ-ofZ w)) (l .inv .2),
+    )
 
 returns : tie.Need-returns Inv-loop μ-loop
 returns c =

@@ -37,8 +37,11 @@ loop-less c = search needs
 loop-again : tie.Need-loop-again Inv-loop μ-loop
 loop-again c =
     let at = c .before .before .before in
-    let a = at .before .before .args in
-    (omega arith, below-next (a .bound) (at .loop .k) (a .l .now) (at .loop .all) (c .still-below .result) (omega arith) (c .still-below .ensures) (at .loop .inv .1))
+    let a = at .before .before .args in (
+      omega arith,
+      below-next (a .bound) (at .loop .k) (a .l .now) (at .loop .all) (c .still-below .result) (omega arith)
+          (c .still-below .ensures) (at .loop .inv .1),
+    )
 
 returns : tie.Need-returns Inv-loop μ-loop
 returns c =
@@ -48,4 +51,5 @@ returns c =
 pub below-spec : {M : Type 1} → statement M
 below-spec =
     tie.close
-    (tie.spec Inv-loop μ-loop loop-holds mul-still-below shared-slice-read-still-below still-below-requires add-k loop-less loop-again returns)
+    (tie.spec Inv-loop μ-loop loop-holds mul-still-below shared-slice-read-still-below still-below-requires add-k loop-less loop-again
+    returns)

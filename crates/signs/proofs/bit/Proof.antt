@@ -1,4 +1,4 @@
--- `signs::bit` meets its contract. Assumes nothing.
+-- `signs::bit` meets its contract.
 use native.Mathlib.Omega.{arith}
 use mathlib.Core.Path.{refl}
 use borrow.Author.Tests.{eq-eqb, ne-eqb}

@@ -1,4 +1,4 @@
--- `signs::digit` meets its contract. Assumes nothing.
+-- `signs::digit` meets its contract.
 use mathlib.Core.Path.{sym}
 use native.Mathlib.Nat.{div-eq-of-lt, div-eq-of-lt-le}
 use native.Mathlib.Omega.{arith}

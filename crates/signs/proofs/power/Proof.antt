@@ -1,4 +1,4 @@
--- `signs::power` meets its contract: the table has the powers. Assumes nothing.
+-- `signs::power` meets its contract: the table has the powers.
 use Rattle.signs.proofs.Powers.{powers}
 use borrow.Author.Needs.{needs}
 use Rattle.signs.proofs.power.Statement.{statement}

@@ -36,7 +36,10 @@ shared-slice-read-if1-2 : tie.Need-shared-slice-read-if1-2 Inv-loop μ-loop
 shared-slice-read-if1-2 c = omega arith
 
 returns : tie.Need-returns Inv-loop μ-loop
-returns c = let at = c .before .before .before .before in let a = at .before .args in rising-not (at .loop .k) (a .l .now) (at .loop .inv .0) (omega arith) (c .if1 .taken) (at .loop .inv .1)
+returns c =
+    let at = c .before .before .before .before in
+    let a = at .before .args in
+    rising-not (at .loop .k) (a .l .now) (at .loop .inv .0) (omega arith) (c .if1 .taken) (at .loop .inv .1)
 
 add-k : tie.Need-add-k Inv-loop μ-loop
 add-k c = search needs
@@ -45,10 +48,16 @@ loop-less : tie.Need-loop-less Inv-loop μ-loop
 loop-less c = search needs
 
 loop-again : tie.Need-loop-again Inv-loop μ-loop
-loop-again c = let at = c .before .before .before .before in let a = at .before .args in (omega arith, rising-next (at .loop .k) (a .l .now) (at .loop .inv .0) (omega arith) (omega arith) (at .loop .inv .1))
+loop-again c =
+    let at = c .before .before .before .before in
+    let a = at .before .args in
+    (omega arith, rising-next (at .loop .k) (a .l .now) (at .loop .inv .0) (omega arith) (omega arith) (at .loop .inv .1))
 
 returns-2 : tie.Need-returns-2 Inv-loop μ-loop
-returns-2 c = let at = c .before in let a = at .before .args in rising-end (at .loop .k) (a .l .now) (at .loop .inv .0) (omega arith) (at .loop .inv .1)
+returns-2 c =
+    let at = c .before in
+    let a = at .before .args in
+    rising-end (at .loop .k) (a .l .now) (at .loop .inv .0) (omega arith) (at .loop .inv .1)
 
 pub rising-spec : {M : Type 1} → statement M
 rising-spec =

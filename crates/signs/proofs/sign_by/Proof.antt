@@ -1,4 +1,4 @@
--- `signs::sign_by` meets its contract. Assumes nothing.
+-- `signs::sign_by` meets its contract.
 use mathlib.Core.Path.{refl}
 use borrow.Author.Tests.{eq-eqb, ne-eqb}
 use Rattle.signs.specs.Bits.{signBits}

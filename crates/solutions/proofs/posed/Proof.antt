@@ -30,7 +30,8 @@ returns-3 : tie.Need-returns-3
 returns-3 c =
     let a = c .before .before .before .before .before .args in
     let r = c .before .rising in
-    sym (list-rest (a .s) (a .l .now) (a .x .now) false (c .before .before .before .if1 .left) (c .before .before .if2 .left) (sym (r .ensures) ∙ not-true (r .result) (c .if3 .taken)))
+    sym (list-rest (a .s) (a .l .now) (a .x .now) false (c .before .before .before .if1 .left) (c .before .before .if2 .left)
+    (sym (r .ensures) ∙ not-true (r .result) (c .if3 .taken)))
 
 power-requires : tie.Need-power-requires
 power-requires c κs = search needs
@@ -43,7 +44,8 @@ returns-4 c =
     let a = c .before .before .before .before .before .before .before .args in
     let r = c .before .before .before .rising in
     c .below .ensures ∙ ap (λ (n : ℕ). isBelow n (a .l .now)) (c .before .power .ensures)
-    ∙ sym (list-rest (a .s) (a .l .now) (a .x .now) true (c .before .before .before .before .before .if1 .left) (c .before .before .before .before .if2 .left) (sym (r .ensures) ∙ not-false (r .result) (c .before .before .if3 .left)))
+    ∙ sym (list-rest (a .s) (a .l .now) (a .x .now) true (c .before .before .before .before .before .if1 .left)
+    (c .before .before .before .before .if2 .left) (sym (r .ensures) ∙ not-false (r .result) (c .before .before .if3 .left)))
 
 pub posed-spec : {M : Type 1} → statement M
 posed-spec =

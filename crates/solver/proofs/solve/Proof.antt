@@ -39,32 +39,56 @@ posed-requires c κs = search needs
 returns-3 : tie.Need-returns-3
 returns-3 c =
     let a = c .before .before .before .before .before .args in
-    let e = refused-list (a .s) (a .patterns .now) (a .numbers .now) (a .out .now) (c .before .before .before .if1 .left) (c .before .before .if2 .left) (sym (c .before .posed .ensures) ∙ not-true (c .before .posed .result) (c .if3 .taken)) in
+    let e = refused-list (a .s) (a .patterns .now) (a .numbers .now) (a .out .now) (c .before .before .before .if1 .left)
+    (c .before .before .if2 .left) (sym (c .before .posed .ensures) ∙ not-true (c .before .posed .result) (c .if3 .taken)) in
     (sym (ap (λ p. p .0) e), sym (ap (λ p. p .1) e))
 
 returns-4 : tie.Need-returns-4
 returns-4 c =
     let a = c .before .before .before .before .before .before .args in
-    let e = refused-short (a .s) (a .patterns .now) (a .numbers .now) (a .out .now) (c .before .before .before .before .if1 .left) (c .before .before .before .if2 .left) (sym (c .before .before .posed .ensures) ∙ not-false (c .before .before .posed .result) (c .before .if3 .left)) (c .if4 .taken) in
+    let e = refused-short (a .s) (a .patterns .now) (a .numbers .now) (a .out .now) (c .before .before .before .before .if1 .left)
+    (c .before .before .before .if2 .left)
+    (sym (c .before .before .posed .ensures) ∙ not-false (c .before .before .posed .result) (c .before .if3 .left)) (c .if4 .taken) in
     (sym (ap (λ p. p .0) e), sym (ap (λ p. p .1) e))
 
 array-borrow-prefix-x : tie.Need-array-borrow-prefix-x
-array-borrow-prefix-x c = let a = c .before .before .before .before .before .before .args in list-true (a .s) (a .patterns .now) (a .numbers .now) (sym (c .before .before .posed .ensures) ∙ not-false (c .before .before .posed .result) (c .before .if3 .left)) .0
+array-borrow-prefix-x c =
+    let a = c .before .before .before .before .before .before .args in
+    list-true (a .s) (a .patterns .now) (a .numbers .now)
+    (sym (c .before .before .posed .ensures) ∙ not-false (c .before .before .posed .result) (c .before .if3 .left)) .0
 
 slice-aggregate-solve-to : tie.Need-slice-aggregate-solve-to
-slice-aggregate-solve-to c = let a = c .before .before .before .before .before .before .before .args in sym (length-take-le _ _ (list-true (a .s) (a .patterns .now) (a .numbers .now) (sym (c .before .before .before .posed .ensures) ∙ not-false (c .before .before .before .posed .result) (c .before .before .if3 .left)) .0))
+slice-aggregate-solve-to c =
+    let a = c .before .before .before .before .before .before .before .args in
+    sym (length-take-le _ _
+    (list-true (a .s) (a .patterns .now) (a .numbers .now)
+    (sym (c .before .before .before .posed .ensures)
+    ∙ not-false (c .before .before .before .posed .result) (c .before .before .if3 .left)) .0))
 
 array-borrow-prefix-v : tie.Need-array-borrow-prefix-v
-array-borrow-prefix-v c = let a = c .before .before .before .before .before .before .before .args in list-true (a .s) (a .patterns .now) (a .numbers .now) (sym (c .before .before .before .posed .ensures) ∙ not-false (c .before .before .before .posed .result) (c .before .before .if3 .left)) .0
+array-borrow-prefix-v c =
+    let a = c .before .before .before .before .before .before .before .args in
+    list-true (a .s) (a .patterns .now) (a .numbers .now)
+    (sym (c .before .before .before .posed .ensures)
+    ∙ not-false (c .before .before .before .posed .result) (c .before .before .if3 .left)) .0
 
 slice-aggregate-solve-to-2 : tie.Need-slice-aggregate-solve-to-2
-slice-aggregate-solve-to-2 c = let a = c .before .before .before .before .before .before .before .before .args in sym (length-take-le _ _ (list-true (a .s) (a .patterns .now) (a .numbers .now) (sym (c .before .before .before .before .posed .ensures) ∙ not-false (c .before .before .before .before .posed .result) (c .before .before .before .if3 .left)) .0))
+slice-aggregate-solve-to-2 c =
+    let a = c .before .before .before .before .before .before .before .before .args in
+    sym (length-take-le _ _
+    (list-true (a .s) (a .patterns .now) (a .numbers .now)
+    (sym (c .before .before .before .before .posed .ensures)
+    ∙ not-false (c .before .before .before .before .posed .result) (c .before .before .before .if3 .left)) .0))
 
 solve-to-requires : tie.Need-solve-to-requires
 solve-to-requires c κs =
     let a = c .before .before .before .before .before .before .before .before .before .args in
-    let (n, P) = list-true (a .s) (a .patterns .now) (a .numbers .now) (sym (c .before .before .before .before .before .posed .ensures) ∙ not-false (c .before .before .before .before .before .posed .result) (c .before .before .before .before .if3 .left)) in
-    ((c .before .before .before .before .before .before .if2 .left, n, c .before .before .before .if4 .left), ((length-take-le _ _ n, length-take-le _ _ n), P))
+    let (n, P) = list-true (a .s) (a .patterns .now) (a .numbers .now)
+    (sym (c .before .before .before .before .before .posed .ensures)
+    ∙ not-false (c .before .before .before .before .before .posed .result) (c .before .before .before .before .if3 .left)) in (
+      (c .before .before .before .before .before .before .if2 .left, n, c .before .before .before .if4 .left),
+      ((length-take-le _ _ n, length-take-le _ _ n), P),
+    )
 
 same-length : tie.Need-same-length
 same-length c = search needs
@@ -72,7 +96,13 @@ same-length c = search needs
 returns-5 : tie.Need-returns-5
 returns-5 c =
     let a = c .before .before .before .before .before .before .before .before .before .before .before .before .before .args in
-    let e = well-posed (a .s) (a .patterns .now) (a .numbers .now) (a .out .now) (c .before .before .before .before .before .before .before .before .before .before .before .if1 .left) (c .before .before .before .before .before .before .before .before .before .before .if2 .left) (sym (c .before .before .before .before .before .before .before .before .before .posed .ensures) ∙ not-false (c .before .before .before .before .before .before .before .before .before .posed .result) (c .before .before .before .before .before .before .before .before .if3 .left)) (c .before .before .before .before .before .before .before .if4 .left) in
+    let e = well-posed (a .s) (a .patterns .now) (a .numbers .now) (a .out .now)
+    (c .before .before .before .before .before .before .before .before .before .before .before .if1 .left)
+    (c .before .before .before .before .before .before .before .before .before .before .if2 .left)
+    (sym (c .before .before .before .before .before .before .before .before .before .posed .ensures)
+    ∙ not-false (c .before .before .before .before .before .before .before .before .before .posed .result)
+    (c .before .before .before .before .before .before .before .before .if3 .left))
+    (c .before .before .before .before .before .before .before .if4 .left) in
     let r = c .before .before .before .solve-to in
     (r .ensures .0 ∙ sym (ap (λ p. p .0) e), r .ensures .1 ∙ sym (ap (λ p. p .1) e))
 

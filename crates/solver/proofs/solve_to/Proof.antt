@@ -1,11 +1,11 @@
--- `solver::solve_to` meets its contract. Assumes nothing.
+-- `solver::solve_to` meets its contract.
 use mathlib.Core.Path.{_≡_, refl, subst}
 use mathlib.Core.List.{List}
 use borrow.Author.Tests.{not-true, not-false}
 use lib.IntN.{ℤ}
 use Rattle.solutions.specs.Solution.{Solution}
 use Rattle.solutions.proofs.SolverRight.{solver-found, solver-refused}
-use Rattle.descent.proofs.Turns.{too-large}
+use Rattle.solver_recursion.proofs.Turns.{too-large}
 use borrow.Author.Needs.{needs}
 use Rattle.solver.proofs.solve_to.Statement.{statement}
 use Rattle.solver.proofs.solve_to.Tie as tie
@@ -41,7 +41,8 @@ returns-2 c =
     let W = rw (not-false (cs .result) (c .before .before .before .before .before .if1 .left)) at (cs .ensures) in
     let sl = c .before .before .solve-list in
     rw (solver-refused (a .s) (a .patterns .now) (a .numbers .now) (st .pre .1 .1) .1
-    (subst (λ (x : List ℤ). (ws : List ℤ) → Solution (a .s) (a .patterns .now) x ws → ⊥) (W .1) (rw (not-true (sl .result) (c .if2 .taken)) at (sl .ensures)))) (refl, refl)
+    (subst (λ (x : List ℤ). (ws : List ℤ) → Solution (a .s) (a .patterns .now) x ws → ⊥) (W .1)
+    (rw (not-true (sl .result) (c .if2 .taken)) at (sl .ensures)))) (refl, refl)
 
 copy-wide-requires : tie.Need-copy-wide-requires
 copy-wide-requires c κs = search needs
@@ -60,11 +61,14 @@ returns-3 c =
     let st = c .before .before .before .before .before .before .before .before .before .before .before .before .before .before in
     let a = st .args in
     let cs = c .before .before .before .before .before .before .before .before .before .before .before .copy-small in
-    let W = rw (not-false (cs .result) (c .before .before .before .before .before .before .before .before .before .if1 .left)) at (cs .ensures) in
+    let W = rw (not-false (cs .result) (c .before .before .before .before .before .before .before .before .before .if1 .left))
+    at (cs .ensures) in
     let sl = c .before .before .before .before .before .before .solve-list in
     let v = sl .last .1 .1 .1 .0 in
     rw (solver-found (a .s) (a .patterns .now) (a .numbers .now) (st .pre .1 .1) v .1
-    (subst (λ (x : List ℤ). Solution (a .s) (a .patterns .now) x v) (W .1) (rw (not-false (sl .result) (c .before .before .before .before .if2 .left)) at (sl .ensures)))) (refl, c .before .copy-wide .ensures)
+    (subst (λ (x : List ℤ). Solution (a .s) (a .patterns .now) x v) (W .1)
+    (rw (not-false (sl .result) (c .before .before .before .before .if2 .left)) at (sl .ensures))))
+    (refl, c .before .copy-wide .ensures)
 
 pub solve-to-spec : {M : Type 1} → statement M
 solve-to-spec =

@@ -17,7 +17,7 @@ shown found = copiedOf (record-of.copiedOf found)
 
 -- the slices a and b left with it
 left : (found : Copied) (a b : List ℕ) (t : FlatCopied) (c : Copy) → t ≡ shown found → record
-    { result = record-of.copiedOf found; patterns-left = a; counts-left = b } ≡ c → (t, a, b) ≡ leftOf c
+    { result = record-of.copiedOf found; patternsLeft = a; countsLeft = b } ≡ c → (t, a, b) ≡ leftOf c
 unfolding shown
 left found a b t c e f = ap (λ (u : FlatCopied). (u, a, b)) e ∙ ap leftOf f
 

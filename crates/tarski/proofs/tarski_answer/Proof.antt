@@ -1,5 +1,5 @@
--- `tarski::tarski_answer` meets its contract: it calls `answered` on the lent record, stores the record that this gives, and returns the step
--- (`writes`).
+-- `tarski::tarski_answer` meets its contract: it calls `answered` on the lent record, stores the record that this gives, and returns the
+-- step (`writes`).
 use lib.IntN.{ℤ}
 use mir.Syntax.{w64}
 use contract.Running.{givenOf, tables, tablesOf}

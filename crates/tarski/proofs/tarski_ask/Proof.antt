@@ -5,7 +5,7 @@ use mir.Syntax.{w16}
 use contract.Running.{givenOf, tables, tablesOf}
 use denote.Triple.Spec.{tripleOf}
 use denote.Triple.Table.{entered, cited}
-use Rattle.query.specs.Opened.{answer}
+use Rattle.query.specs.Opened.{openedAnswer}
 use Rattle.query.specs.declared.Opened.{Opened}
 use Rattle.determination.proofs.LentRead.{reads}
 use Rattle.determination.proofs.Pieces.{unsigned-passed}
@@ -22,7 +22,7 @@ use Rattle.tarski.proofs.tarski_ask.Code as code
 
 -- what `number_on` promises
 abbrev Gives : Opened → ℕ → Number → Type 0
-Gives h z r = r ≡ numberOf (answer h z)
+Gives h z r = r ≡ numberOf (openedAnswer h z)
 
 pub tarski-ask-spec : {M : Type 1} → stated.statement M
 unfolding code.routine tablesOf

@@ -1,6 +1,6 @@
--- `tarski::tarski_asked` meets its contract: a walk of its MIR, by hand. The `&` is looked into, the record is copied out of it, and it is shut again; `asked`
--- is called on the copy. All that the proof knows of `asked` is that it meets its contract. A `&` is Copy: what it owns is had twice, one copy is kept
--- whole for the exit, and the other is taken apart.
+-- `tarski::tarski_asked` meets its contract: a walk of its MIR, by hand. The `&` is looked into, the record is copied out of it, and it is
+-- shut again; `asked` is called on the copy. All that the proof knows of `asked` is that it meets its contract. A `&` is Copy: what it owns
+-- is had twice, one copy is kept whole for the exit, and the other is taken apart.
 use mathlib.Core.Path.{_≡_, refl}
 use mathlib.Core.List.{List, [], _∷_}
 use Prim.Native.Nat.{ℕ}
@@ -15,8 +15,10 @@ use prog.Wp.{Heap, Calls, Loops, WpFn, Tables}
 use ghost.Atoms.{Atoms}
 use contract.Monad.{Fun}
 use contract.Running.{givenOf, tables, tablesOf}
-use types.Kit.{Given, ‵, raw, _⊛_, ⋆, _$_, _∵_, !, qed, by, move, keep, drop, use0, use1, split, join, fsplit, fsplit3, fjoin, suffices, frame, done}
-use types.Run.{look, look-raw, init, forget, stop, hop, from, load, of-opd, and-then, no-more, assigns, land, returns, enter, alloc1, alloc0, params1, pass1, pass0, free1, free0}
+use types.Kit.{Given, ‵, raw, _⊛_, ⋆, _$_, _∵_, !, qed, by, move, keep, drop, use0, use1, split, join, fsplit, fsplit3, fjoin, suffices}
+use types.Kit.{frame, done}
+use types.Run.{look, look-raw, init, forget, stop, hop, from, load, of-opd, and-then, no-more, assigns, land, returns, enter, alloc1}
+use types.Run.{alloc0, params1, pass1, pass0, free1, free0}
 use sound.WpLaws.{FmC, fmOf, WpFn-mono}
 use denote.RattleType.{owns}
 use denote.Ref.{RefT, ShrRef, ptr-vals, shr-tells, shr-copy}

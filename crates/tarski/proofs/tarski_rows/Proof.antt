@@ -1,7 +1,7 @@
--- `tarski::tarski_rows` meets its contract: a walk of its MIR, by hand. The `&Run` is looked into, the record is copied out of it, and it is shut
--- again; `rows_to` is called on the copy and the two slices. It is called at the borrows' own lifetimes, shares and names: they are given up for good,
--- and what `rows_to` says of the last lists under those names is what is said at exit. All that the proof knows of `rows_to` is that it meets its
--- contract.
+-- `tarski::tarski_rows` meets its contract: a walk of its MIR, by hand. The `&Run` is looked into, the record is copied out of it, and it
+-- is shut again; `rows_to` is called on the copy and the two slices. It is called at the borrows' own lifetimes, shares and names: they are
+-- given up for good, and what `rows_to` says of the last lists under those names is what is said at exit. All that the proof knows of
+-- `rows_to` is that it meets its contract.
 use mathlib.Core.Path.{_≡_, refl}
 use mathlib.Core.List.{List, [], _∷_}
 use Prim.Native.Nat.{ℕ}
@@ -18,8 +18,10 @@ use ghost.Atoms.{Atoms}
 use contract.Lifetimes.{AllOutlive}
 use contract.Monad.{Fun, fact}
 use contract.Running.{givenOf, tables, tablesOf}
-use types.Kit.{Given, Item, ‵, raw, _⊛_, ⋆, some, later, _$_, _∵_, !, qed, by, move, keep, drop, use1, use3, split, join, pick, await, fsplit, fsplit3, fjoin, feqL, suffices, frame, done}
-use types.Run.{look, look-raw, init, forget, stop, hop, fld, from, load, addr, of-opd, and-then, no-more, assigns, land, returns, enter, alloc1, alloc0, params1, pass1, pass0, free1, free0}
+use types.Kit.{Given, Item, ‵, raw, _⊛_, ⋆, some, later, _$_, _∵_, !, qed, by, move, keep, drop, use1, use3, split, join, pick, await}
+use types.Kit.{fsplit, fsplit3, fjoin, feqL, suffices, frame, done}
+use types.Run.{look, look-raw, init, forget, stop, hop, fld, from, load, addr, of-opd, and-then, no-more, assigns, land, returns, enter}
+use types.Run.{alloc1, alloc0, params1, pass1, pass0, free1, free0}
 use types.Part.{agg, whole, sub, look-in}
 use sound.WpLaws.{FmC, fmOf, WpFn-mono}
 use denote.RattleType.{owns}

@@ -1,4 +1,4 @@
--- `card::reader::too_large` meets its contract. Assumes nothing.
+-- `card::reader::too_large` meets its contract.
 use mathlib.Core.Path.{_≡_, sym}
 use mathlib.Core.Bool.{false}
 use mathlib.Core.Logic.{⊎-elim}

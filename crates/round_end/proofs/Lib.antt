@@ -1,3 +1,0 @@
-pub mod FairLaws
-pub mod StepLaws
-pub mod MomentLaws
