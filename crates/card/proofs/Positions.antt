@@ -17,7 +17,7 @@ use Rattle.refusals.specs.Limits.{mostCoefficient}
 use Rattle.layout.specs.Body.{Whole, Body}
 use Rattle.polynomials.specs.Values.{evaluate}
 use Rattle.layout.specs.Values.{coefficients, valueOf}
-use Rattle.layout.proofs.Coefficients.{polynomial-within, evaluate-polynomial}
+use Rattle.layout.proofs.CoefficientLists.{polynomial-within, evaluate-polynomial}
 use Rattle.card.specs.Sound.{Sound}
 use Rattle.card.specs.Answers.{reading}
 use Rattle.refusals.specs.Numbers.{unless}

@@ -1,3 +1,3 @@
 pub mod Twos
-pub mod Coefficients
+pub mod CoefficientLists
 pub mod Contents

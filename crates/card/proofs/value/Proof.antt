@@ -16,7 +16,7 @@ use Rattle.layout.specs.Format.{offset}
 use Rattle.layout.specs.Body.{Whole}
 use Rattle.polynomials.specs.Values.{evaluate}
 use Rattle.layout.specs.Values.{coefficients, value}
-use Rattle.layout.proofs.Coefficients.{polynomial-within, evaluate-polynomial}
+use Rattle.layout.proofs.CoefficientLists.{polynomial-within, evaluate-polynomial}
 use Rattle.card.specs.declared.Evaluated.the-variants as Evaluated
 use Rattle.card.specs.Card.{positionRefusal}
 use Rattle.card.specs.Answers.{valueAnswer}

@@ -9,7 +9,7 @@ use lib.ListN.{length, getD, length-set}
 use lib.IntN.{ℤ, pos}
 use Rattle.layout.specs.Format.{degree, coefficient}
 use Rattle.layout.specs.Values.{coefficientBelow, coefficients}
-use Rattle.layout.proofs.Coefficients.{from-zero, stored, filled}
+use Rattle.layout.proofs.CoefficientLists.{from-zero, stored, filled}
 use Rattle.layout.proofs.coefficients.Statement.{statement}
 use Rattle.layout.proofs.coefficients.Tie as tie
 
