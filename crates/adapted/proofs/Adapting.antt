@@ -152,8 +152,8 @@ one-at-most (x ∷ y ∷ l) r b = absurd (omega (arith, r .0 y (omega (arith, ti
 
 -- ---- patterns chosen by their marks
 
-chosen-inside : (k q : ℕ) (l m : List ℕ) → 0 < times q (chosen k l m) → (j : ℕ) × (j < length l) × (getD l j 0 ≡ q)
-    × (k ≤ countOf (getD m j 0))
+chosen-inside : (k q : ℕ) (l m : List ℕ) → 0 < times q (chosen k l m)
+    → (j : ℕ) × (j < length l) × (getD l j 0 ≡ q) × (k ≤ countOf (getD m j 0))
 unfolding chosen
 chosen-inside k q [] m h = absurd (omega (arith, times-nil q))
 chosen-inside k q (x ∷ l) [] h = absurd (omega (arith, times-nil q))
@@ -367,8 +367,8 @@ some-polynomial (suc i) l r b h k = omega arith
 -- ---- what the code lends on
 
 -- the patterns chosen, in an array of 64
-pub front : (k n : ℕ) (low mark l : List ℕ) → length low ≤ 64 → n ≡ length (chosen k low mark) → l
-    ≡ sets (replicate 64 0) 0 (chosen k low mark)
+pub front : (k n : ℕ) (low mark l : List ℕ) → length low ≤ 64 → n ≡ length (chosen k low mark)
+    → l ≡ sets (replicate 64 0) 0 (chosen k low mark)
     → take n l ≡ chosen k low mark
 front k n low mark l h e p = rw p (take-sets (chosen k low mark) (replicate 64 0) n e (omega (arith, chosen-length k low mark)))
 

@@ -14,8 +14,8 @@ use Rattle.adapted.specs.Split.{leading, chosen, countOf}
 -- ---- the blocks
 
 -- a place with smaller elements before it and none behind is where the rest begins
-pub leading-at : (b : ℕ) (l : List ℕ) (k : ℕ) → k ≤ length l → ((j : ℕ) → j < k → getD l j 0 < b) → (k < length l → b ≤ getD l k 0) → k
-    ≡ leading b l
+pub leading-at : (b : ℕ) (l : List ℕ) (k : ℕ) → k ≤ length l → ((j : ℕ) → j < k → getD l j 0 < b) → (k < length l → b ≤ getD l k 0)
+    → k ≡ leading b l
 unfolding leading
 leading-at b [] k h f g = omega arith
 leading-at b (x ∷ l) zero h f g = rw (le-leb b x (g (omega arith))) refl

@@ -442,8 +442,8 @@ module _ (L : List ℕ) (w mid top : ℕ) (r : Rising L) (below-3 : Below (3 * w
             stood = added (λ u v. 0 < v) (s .stood) (omega (arith, stood-one));
           }
 
-      pub turned : (A₁ A₂ A₃ : List ℕ) → A₁ ≡ cond (eqb x q) (set at a n) at → A₂ ≡ cond (eqb y q) (set A₁ b n) A₁ → A₃
-          ≡ cond (eqb z q) (set A₂ c n) A₂
+      pub turned : (A₁ A₂ A₃ : List ℕ) → A₁ ≡ cond (eqb x q) (set at a n) at → A₂ ≡ cond (eqb y q) (set A₁ b n) A₁
+          → A₃ ≡ cond (eqb z q) (set A₂ c n) A₂
           → Merged L w mid top (set low n q) (set mark n m) A₃ (a + bitOf x q) (b + bitOf y q) (c + bitOf z q) (n + 1) (suc q)
       unfolding at₁ at₂ at₃
       turned A₁ A₂ A₃ e₁ e₂ e₃ =

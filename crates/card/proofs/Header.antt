@@ -21,7 +21,7 @@ pub record Headed (c : List ℕ) : Type 0 where
   pub s-least : 1 ≤ polynomials c
   pub s-most : polynomials c ≤ 8
   pub n-most : pointCount c ≤ 64
-  pub contentsRefusal : bodiesAt c ≤ length c
+  pub contents : bodiesAt c ≤ length c
   pub begins : offset c 0 ≡ bodiesAt c
 
 module _ (c : List ℕ) where

@@ -50,9 +50,9 @@ module _ (c : List ℕ) where
       (first-listed wrongCount (ltb (polynomials c) 1 || ltb mostPolynomials (polynomials c)) refl
       (first-listed wrongCount (ltb mostPoints (pointCount c)) refl contents-listed)))
 
-  last-listed : (at : ℕ) → Listed (pointsRefusal c at)
+  points-listed : (at : ℕ) → Listed (pointsRefusal c at)
   unfolding pointsRefusal isAmong cardNumbers
-  last-listed at =
+  points-listed at =
       first-listed wrongLength (not (eqb (length c) (at + pointCount c))) refl
       (only-listed wrongPoint (anyBelow (λ k. outside mostPoint (point c at k) || falling c at k) (pointCount c)) refl)
 
@@ -71,7 +71,7 @@ module _ (c : List ℕ) where
 
   bodies-listed : (k j at : ℕ) → Listed (bodiesRefusal c k j at)
   unfolding bodiesRefusal isAmong cardNumbers
-  bodies-listed zero j at = last-listed at
+  bodies-listed zero j at = points-listed at
   bodies-listed (suc k) j at =
       then-among (polynomialRefusal c at) (polynomial-listed at)
       (first-listed wrongOffset (not (eqb (offset c (suc j)) (at + size c at))) refl (bodies-listed k (suc j) (at + size c at)))
@@ -82,9 +82,9 @@ module _ (c : List ℕ) where
   refusal-listed = then-among (headerRefusal c) header-listed (bodies-listed (polynomials c) 0 (bodiesAt c))
 
   -- and for a position on it
-  pub place-listed : (j : ℕ) → Listed (positionRefusal c j) ⊎ (positionRefusal c j ≡ pastLast)
+  pub position-listed : (j : ℕ) → Listed (positionRefusal c j) ⊎ (positionRefusal c j ≡ pastLast)
   unfolding positionRefusal
-  place-listed j = go (refusal c) (leb (polynomials c) j) refusal-listed
+  position-listed j = go (refusal c) (leb (polynomials c) j) refusal-listed
     where
       go : (m : ℕ) (t : Bool) → Listed m → Listed (m ▸ pastLast when t) ⊎ ((m ▸ pastLast when t) ≡ pastLast)
       go zero true h = inr refl

@@ -17,7 +17,7 @@ use Rattle.refusals.specs.Limits.{mostCoefficient}
 use Rattle.layout.specs.Body.{Whole, Body}
 use Rattle.polynomials.specs.Values.{evaluate}
 use Rattle.layout.specs.Values.{coefficients, valueOf}
-use Rattle.layout.proofs.CoefficientLists.{polynomial-within, evaluate-polynomial}
+use Rattle.layout.proofs.CoefficientLists.{coefficients-within, evaluate-coefficients}
 use Rattle.card.specs.Sound.{Sound}
 use Rattle.card.specs.Answers.{reading}
 use Rattle.refusals.specs.Numbers.{unless}
@@ -34,23 +34,23 @@ unless-number zero f a h = absurd (h refl)
 unless-number (suc m) f a h = refl
 
 pub record Held (c : List ℕ) (j : ℕ) : Type 0 where
-  pub headerRefusal : Headed c
+  pub header : Headed c
   pub card : Sound c
   pub below : j < polynomials c
   pub body : Body c (offset c j)
 
 module _ (c : List ℕ) (j : ℕ) where
-  pub place-card : (refusal c ≡ 0 → ⊥) → refusal c ≡ positionRefusal c j
+  pub position-card : (refusal c ≡ 0 → ⊥) → refusal c ≡ positionRefusal c j
   unfolding positionRefusal
-  place-card h = first-some (refusal c) _ h
+  position-card h = first-some (refusal c) _ h
 
-  pub place-past : refusal c ≡ 0 → polynomials c ≤ j → 14 ≡ positionRefusal c j
+  pub position-past : refusal c ≡ 0 → polynomials c ≤ j → 14 ≡ positionRefusal c j
   unfolding positionRefusal
-  place-past e h = rw e (sym (simp (le-leb (polynomials c) j h)))
+  position-past e h = rw e (sym (simp (le-leb (polynomials c) j h)))
 
-  pub place-held : refusal c ≡ 0 → j < polynomials c → 0 ≡ positionRefusal c j
+  pub position-held : refusal c ≡ 0 → j < polynomials c → 0 ≡ positionRefusal c j
   unfolding positionRefusal
-  place-held e h = rw e (sym (simp (lt-leb (polynomials c) j h)))
+  position-held e h = rw e (sym (simp (lt-leb (polynomials c) j h)))
 
   pub held : positionRefusal c j ≡ 0 → Held c j
   unfolding positionRefusal
@@ -97,8 +97,8 @@ module _ (c : List ℕ) (s : Sound c) where
   body-place j h = s .body j h .small .whole
 
   pub body-within : (j : ℕ) → j < polynomials c → Within mostCoefficient (coefficients c (offset c j))
-  body-within j h = polynomial-within c (offset c j) (s .body j h .small)
+  body-within j h = coefficients-within c (offset c j) (s .body j h .small)
 
   -- the value of polynomial j at point k, by the coefficients taken off the card
   pub point-value : (j k : ℕ) → j < polynomials c → evaluate (coefficients c (offset c j)) (pointOf c k) ≡ valueOf c j k
-  point-value j k h = evaluate-polynomial c (offset c j) (pointOf c k) (body-place j h .low)
+  point-value j k h = evaluate-coefficients c (offset c j) (pointOf c k) (body-place j h .low)

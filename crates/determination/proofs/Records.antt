@@ -29,8 +29,8 @@ place-first asked round rows answered e t =
     let k : eqb answered 0 && eqb asked 0 ≡ true = rw (eq-eqb round 0 e) at t in
     (eqb-true answered 0 (both-left (eqb answered 0) (eqb asked 0) k), eqb-true asked 0 (both-right (eqb answered 0) (eqb asked 0) k))
 
-place-later : (asked round rows answered : ℕ) → 0 < round → place asked round rows answered ≡ true → (answered < 2 * rows)
-    × (asked ≤ 128 * round + answered)
+place-later : (asked round rows answered : ℕ) → 0 < round → place asked round rows answered ≡ true
+    → (answered < 2 * rows) × (asked ≤ 128 * round + answered)
 place-later asked round rows answered h t =
     let k : ltb answered (2 * rows) && leb asked (128 * round + answered) ≡ true = rw (ne-eqb round 0 (λ e. omega arith)) at t in (
       ltb-true answered (2 * rows) (both-left (ltb answered (2 * rows)) (leb asked (128 * round + answered)) k),
@@ -230,8 +230,8 @@ pub test-limits : (r : Run) → inLimits (r .polynomials) (r .asked) (r .round) 
 unfolding isSound
 test-limits r e = rw e refl
 
-pub test-first : (r : Run) → inLimits (r .polynomials) (r .asked) (r .round) (r .n) (r .rows) (r .answered) ≡ true → r .round ≡ 0 → true
-    ≡ isSound r
+pub test-first : (r : Run) → inLimits (r .polynomials) (r .asked) (r .round) (r .n) (r .rows) (r .answered) ≡ true → r .round ≡ 0
+    → true ≡ isSound r
 unfolding isSound
 test-first r e z = rw (e, eq-eqb (r .round) 0 z) refl
 

@@ -132,8 +132,8 @@ sum-map-zero [] = refl
 sum-map-zero (y ∷ ys) = ap (λ z. pos 0 +ℤ z) (sum-map-zero ys)
 
 module _ {A B : Type 0} where
-  pub sum-map-swap : (f : A → B → ℤ) (xs : List A) (ys : List B) → sumℤ (map (λ a. sumℤ (map (f a) ys)) xs)
-      ≡ sumℤ (map (λ b. sumℤ (map (λ a. f a b) xs)) ys)
+  pub sum-map-swap : (f : A → B → ℤ) (xs : List A) (ys : List B)
+      → sumℤ (map (λ a. sumℤ (map (f a) ys)) xs) ≡ sumℤ (map (λ b. sumℤ (map (λ a. f a b) xs)) ys)
   unfolding sumℤ
   sum-map-swap f [] ys = sym (sum-map-zero ys)
   sum-map-swap f (x ∷ xs) ys =

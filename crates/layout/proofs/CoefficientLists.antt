@@ -71,8 +71,8 @@ module _ (c : List ℕ) (at : ℕ) where
   unfolding coefficients
   seven = refl
 
-  pub filled : (p : List ℤ) → length p ≡ 7 → ((k : ℕ) → getD p k (pos 0) ≡ coefficientBelow c at (degree c at + 1) k) → p
-      ≡ coefficients c at
+  pub filled : (p : List ℤ) → length p ≡ 7 → ((k : ℕ) → getD p k (pos 0) ≡ coefficientBelow c at (degree c at + 1) k)
+      → p ≡ coefficients c at
   filled p l h =
       ext-getD (pos 0) p (coefficients c at) (l ∙ sym seven) (λ k b. h k ∙ sym (first-seven k (omega arith)))
 
@@ -83,8 +83,8 @@ module _ (c : List ℕ) (at : ℕ) where
       past k h = List·getD-eq-default (coefficients c at) (pos 0) (rw seven h)
 
   -- ---- its bound
-  pub polynomial-within : Small c at → Within mostCoefficient (coefficients c at)
-  polynomial-within s = record { at = λ k. rw (all-seven (s .whole .low) k) (each k (below-or k (degree c at + 1))) }
+  pub coefficients-within : Small c at → Within mostCoefficient (coefficients c at)
+  coefficients-within s = record { at = λ k. rw (all-seven (s .whole .low) k) (each k (below-or k (degree c at + 1))) }
     where
       each : (k : ℕ) → (k < degree c at + 1) ⊎ (degree c at + 1 ≤ k) → natAbs (coefficientBelow c at (degree c at + 1) k) ≤ 1000000
       each k (inl h) = rw (up-to-low (degree c at + 1) k h) (s .small k (omega arith))
@@ -98,9 +98,9 @@ module _ (c : List ℕ) (at : ℕ) where
       let e : m + suc t ≡ suc (m + t) = omega arith in
       rw (e, tail f m t h, h (m + t) (omega arith)) (+ℤ-idr (sumTo f m))
 
-  pub evaluate-polynomial : (x : ℤ) → degree c at ≤ 6 → evaluate (coefficients c at) x ≡ value c at x
+  pub evaluate-coefficients : (x : ℤ) → degree c at ≤ 6 → evaluate (coefficients c at) x ≡ value c at x
   unfolding evaluate value
-  evaluate-polynomial x d =
+  evaluate-coefficients x d =
       let a = coefficientBelow c at (degree c at + 1) in
       let t : 7 ≡ degree c at + 1 + (6 - degree c at) = omega arith in
       ap (sumTo (λ i. getD (coefficients c at) i (pos 0) *ℤ power x i)) t

@@ -10,6 +10,6 @@ use Rattle.lines.specs.Text.{lineRoom}
 use Rattle.lines.proofs.Line as line-type
 use Rattle.lines.proofs.Line.Laws as line-laws
 
-pub bytes-length : (l : Line) → Is (SD.row line-type.the-type) l (SL.val line-type.the-type line-laws.the-laws l ∷ []) → length (l .bytes)
-    ≡ lineRoom
+pub bytes-length : (l : Line) → Is (SD.row line-type.the-type) l (SL.val line-type.the-type line-laws.the-laws l ∷ [])
+    → length (l .bytes) ≡ lineRoom
 bytes-length l g = sym (length-map (l .bytes) (λ v. v)) ∙ g .1 .1 .0 .1 .0 .1

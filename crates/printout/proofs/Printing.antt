@@ -138,8 +138,8 @@ step-done : (o : Opened) (α : ℕ) (z : ℤ) (r : State) → onStep o α z (r, 
 unfolding onStep
 step-done o α z r = refl
 
-question-more : (c : List ℕ) (p : ℕ) (ps : List ℕ) (ls : List (List ℕ)) → questionLine p (queryOf c p) ∷ (questionLines c ps ++ ls)
-    ≡ questionLines c (p ∷ ps) ++ ls
+question-more : (c : List ℕ) (p : ℕ) (ps : List ℕ) (ls : List (List ℕ))
+    → questionLine p (queryOf c p) ∷ (questionLines c ps ++ ls) ≡ questionLines c (p ∷ ps) ++ ls
 unfolding questionLines
 question-more c p ps ls = refl
 

@@ -20,8 +20,8 @@ use Rattle.printout.specs.Printout.{roundsTo, questions}
 
 module _ (s : ℕ) (E : List ℕ) (O : Oracle s E) where
   -- the rows after round i are those of P1 .. Pi
-  rows-are : (i : ℕ) (zs : List ℤ) (ps : List ℕ) (R : List Row) → i ≤ s → Determined i zs ps R → Fits s E ps zs → realized i (restrict i E)
-      ≡ R
+  rows-are : (i : ℕ) (zs : List ℤ) (ps : List ℕ) (R : List Row) → i ≤ s → Determined i zs ps R → Fits s E ps zs
+      → realized i (restrict i E) ≡ R
   rows-are i zs ps R h d f =
       let F : Facts i zs ps R = facts i zs ps R d in
       realized-rows i (restrict i E) R (F .rows)

@@ -118,8 +118,8 @@ rowIf-shift c x q k = go (ℕ-discrete x q)
     go (yes e) = rw e (rowIf-same (q + c) k ∙ sym (rowIf-same q k))
     go (no e) = rowIf-other (x + c) (q + c) k (omega arith) ∙ sym (rowIf-other x q k e)
 
-thirds-at : (c : ℕ) (f : ℕ → ℤ → ℤ → ℕ) (R : List Row) (es gs : List ℤ) (x : ℕ) → times (x + c) (repeated (extendedBy c f R es gs))
-    ≡ at f R es gs x
+thirds-at : (c : ℕ) (f : ℕ → ℤ → ℤ → ℕ) (R : List Row) (es gs : List ℤ) (x : ℕ)
+    → times (x + c) (repeated (extendedBy c f R es gs)) ≡ at f R es gs x
 unfolding extendedBy at
 thirds-at c f [] es gs x = no-points (x + c)
 thirds-at c f (r ∷ R) [] gs x = no-points (x + c)

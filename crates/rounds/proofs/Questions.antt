@@ -147,7 +147,7 @@ unfolding total most
 most-8 = refl
 
 -- with at most 8 polynomials
-pub at-most-593 : (s k : ℕ) (zs : List ℤ) (r : ℕ → ℕ) → s ≤ mostPolynomials → ((i : ℕ) → i < s → RowsAfter i zs (r i)) → k
-    ≡ 1 + 2 * total r s → k ≤ 593
+pub at-most-593 : (s k : ℕ) (zs : List ℤ) (r : ℕ → ℕ) → s ≤ mostPolynomials → ((i : ℕ) → i < s → RowsAfter i zs (r i))
+    → k ≡ 1 + 2 * total r s → k ≤ 593
 at-most-593 s k zs r h each e =
     omega (arith, total-mono r most s (λ i b. after-most i (r i) zs (each i b)), total-longer most s 8 h, most-8)

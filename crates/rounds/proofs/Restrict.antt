@@ -154,8 +154,8 @@ restrict-count i q (σ ∷ E) h b =
 
 -- ---- a query is fixed by the counts
 
-pub query-ext : (i α : ℕ) (E E′ : List ℕ) → α < 3 ^ i → Below (3 ^ i) E → Below (3 ^ i) E′ → Agree i (counts E) (counts E′) → query i E α
-    ≡ query i E′ α
+pub query-ext : (i α : ℕ) (E E′ : List ℕ) → α < 3 ^ i → Below (3 ^ i) E → Below (3 ^ i) E′ → Agree i (counts E) (counts E′)
+    → query i E α ≡ query i E′ α
 query-ext i α E E′ a b b′ e =
     diff-same (query i E α) (query i E′ α) (query-tally i α E a b) (query-tally i α E′ a b′)
     (omega (

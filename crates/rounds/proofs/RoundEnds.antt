@@ -46,8 +46,8 @@ proper-test i R rows few =
     refl
 
 -- on them, with all answers of a round, the two questions to the solver are asked
-asked : (i : ℕ) (R₀ : List Row) (ws : List ℤ) → IsRows i R₀ → length (repeated R₀) ≤ mostPoints → length ws
-    ≡ length (roundOf i (patterns R₀))
+asked : (i : ℕ) (R₀ : List Row) (ws : List ℤ) → IsRows i R₀ → length (repeated R₀) ≤ mostPoints
+    → length ws ≡ length (roundOf i (patterns R₀))
     → roundRows i R₀ ws ≡ byMoments i R₀ ws
 unfolding roundRows
 asked i R₀ ws rows few full =

@@ -114,8 +114,8 @@ determined-unique (suc i) zs zs′ us us′ ps ps′ R R′ (a, c) (a′, c′) 
     (z, p, sym (rows-same (suc i) R′ R (c′ .rows) (c .rows) (F .only (repeated R′) (points-below (3 ^ suc i) R′ (c′ .rows .below)) f)))
 
 -- a round ends at one place
-pub end-unique : (i : ℕ) (zs zs′ us us′ : List ℤ) (ps ps′ : List ℕ) → AtEnd i zs ps → AtEnd i zs′ ps′ → zs ++ us ≡ zs′ ++ us′ → length zs
-    ≡ length zs′
+pub end-unique : (i : ℕ) (zs zs′ us us′ : List ℤ) (ps ps′ : List ℕ) → AtEnd i zs ps → AtEnd i zs′ ps′ → zs ++ us ≡ zs′ ++ us′
+    → length zs ≡ length zs′
 unfolding AtEnd
 end-unique zero zs zs′ us us′ ps ps′ ((z, e), f) ((z′, e′), f′) j = ap length e ∙ sym (ap length e′)
 end-unique (suc i) zs zs′ us us′ ps ps′ a a′ j = ap length (answered-fixed i zs zs′ us us′ ps ps′ a a′ (determined-unique i) j .0)
@@ -198,8 +198,8 @@ fits-first s E ps zs n zs′ ps′ e e′ f = go (rw (e, e′) at f)
     go g = let h : pos n ≡ pos (length E) = g .0 ∙ query-zero s E in cc
 
 -- the rows that the answers give are an oracle that fits
-pub rows-oracle : (s i : ℕ) (zs : List ℤ) (ps : List ℕ) (R : List Row) → i ≤ s → Facts i zs ps R → Oracle s (repeated R)
-    × Fits s (repeated R) ps zs
+pub rows-oracle : (s i : ℕ) (zs : List ℤ) (ps : List ℕ) (R : List Row) → i ≤ s → Facts i zs ps R
+    → Oracle s (repeated R) × Fits s (repeated R) ps zs
 rows-oracle s i zs ps R h F = (
   record { held = held; below = below-up (3 ^ i) (3 ^ s) (repeated R) (three-mono i s h) b },
   fits-up s i (repeated R) ps zs h (F .under) b (F .fits),

@@ -79,8 +79,8 @@ no-two x y M t u =
     omega (arith, ltb-true x y (both-left (ltb x y) (isRising (y ∷ M)) t), ltb-true y 1 (both-left (ltb y 1) (isBelow 1 M) v))
 
 -- a rising list of patterns of no polynomials is empty or 0 alone
-pub solver-one : (L : List ℕ) (ds : List ℤ) → isRising L ≡ true → isBelow (3 ^ 0) L ≡ true → length ds ≡ length L → solverOf 1 L ds
-    ≡ solverOf 0 L ds
+pub solver-one : (L : List ℕ) (ds : List ℤ) → isRising L ≡ true → isBelow (3 ^ 0) L ≡ true → length ds ≡ length L
+    → solverOf 1 L ds ≡ solverOf 0 L ds
 solver-one L ds r b e = go L refl
   where
     posed : (s : ℕ) → isBelow (3 ^ s) L ≡ true → Posed s L ds

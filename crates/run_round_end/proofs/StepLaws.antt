@@ -219,8 +219,8 @@ put-length A B T k k′ e next = omega (arith, ap length e, length-append A B)
 -- of each row its pattern, or its count
 module _ (f : List Row → List ℕ) (f-append : (R R′ : List Row) → f (R ++ R′) ≡ f R ++ f R′)
     (f-length : (R : List Row) → length (f R) ≡ length R) where
-  put : (A B T : List Row) (l l′ : List ℕ) (k k′ : ℕ) → T ≡ A ++ B → k′ ≡ k + length A → l′ ≡ sets l k (f A) → sets l′ k′ (f B)
-      ≡ sets l k (f T)
+  put : (A B T : List Row) (l l′ : List ℕ) (k k′ : ℕ) → T ≡ A ++ B → k′ ≡ k + length A → l′ ≡ sets l k (f A)
+      → sets l′ k′ (f B) ≡ sets l k (f T)
   put A B T l l′ k k′ e next w = rw (e, next, w, f-append A B, sets-append (f A) (f B) l k, f-length A) refl
 
   -- three parts, from the front on
@@ -246,14 +246,14 @@ pub extended-is : (i w : ℕ) (R : List Row) (es gs : List ℤ) → w ≡ 3 ^ i
 unfolding extendedRows withSign
 extended-is i w R es gs e = rw (e, zero-mul (3 ^ i), one-mul (3 ^ i)) refl
 
-pub put-all-patterns : (A B C : List Row) (l l₁ l₂ l₃ : List ℕ) (k₁ k₂ : ℕ) → k₁ ≡ 0 + length A → k₂ ≡ k₁ + length B → l₁
-    ≡ sets l 0 (patterns A)
+pub put-all-patterns : (A B C : List Row) (l l₁ l₂ l₃ : List ℕ) (k₁ k₂ : ℕ) → k₁ ≡ 0 + length A → k₂ ≡ k₁ + length B
+    → l₁ ≡ sets l 0 (patterns A)
     → l₂ ≡ sets l₁ k₁ (patterns B) → l₃ ≡ sets l₂ k₂ (patterns C) → length (A ++ (B ++ C)) ≤ length l
     → take (length (A ++ (B ++ C))) l₃ ≡ patterns (A ++ (B ++ C))
 put-all-patterns = put-three patterns patterns-append length-patterns
 
-pub put-all-counts : (A B C : List Row) (l l₁ l₂ l₃ : List ℕ) (k₁ k₂ : ℕ) → k₁ ≡ 0 + length A → k₂ ≡ k₁ + length B → l₁
-    ≡ sets l 0 (counts A)
+pub put-all-counts : (A B C : List Row) (l l₁ l₂ l₃ : List ℕ) (k₁ k₂ : ℕ) → k₁ ≡ 0 + length A → k₂ ≡ k₁ + length B
+    → l₁ ≡ sets l 0 (counts A)
     → l₂ ≡ sets l₁ k₁ (counts B) → l₃ ≡ sets l₂ k₂ (counts C) → length (A ++ (B ++ C)) ≤ length l
     → take (length (A ++ (B ++ C))) l₃ ≡ counts (A ++ (B ++ C))
 put-all-counts = put-three counts counts-append length-counts
@@ -290,8 +290,8 @@ pub record Ready (w : ℕ) (P C : List ℕ) (es gs : List ℤ) : Type 0 where
       length (signRows w 0 (rowsWith P C) es gs) + length (signRows w 1 (rowsWith P C) es gs)
       + length (signRows w 2 (rowsWith P C) es gs) ≤ mostPoints
 
-pub ready : (i w : ℕ) (P C : List ℕ) (es gs : List ℤ) → i < mostPolynomials → w ≡ 3 ^ i → length C ≡ length P → properRows i (rowsWith P C)
-    ≡ true
+pub ready : (i w : ℕ) (P C : List ℕ) (es gs : List ℤ) → i < mostPolynomials → w ≡ 3 ^ i → length C ≡ length P
+    → properRows i (rowsWith P C) ≡ true
     → allSplit (rowsWith P C) es gs ≡ true → Ready w P C es gs
 ready i w P C es gs h e l t u =
     let R = rowsWith P C in

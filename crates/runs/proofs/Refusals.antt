@@ -186,8 +186,8 @@ copy-rule-15 finished R a b = (λ e. (refl, go (leb (length R) (length a)) refl 
     either true = refl
     either false = refl
 
-    back : (length a < length R) ⊎ (length b < length R) → outcome R a b (leb (length R) (length a)) (leb (length R) (length b)) .result
-        ≡ notCopied 15
+    back : (length a < length R) ⊎ (length b < length R)
+        → outcome R a b (leb (length R) (length a)) (leb (length R) (length b)) .result ≡ notCopied 15
     back (inl h) = rw (lt-leb (length R) (length a) h) refl
     back (inr h) = rw (lt-leb (length R) (length b) h) (either (leb (length R) (length a)))
 copy-rule-15 closed R a b = (λ e. let x : _≡_ {A = ℕ} 7 15 = cc in absurd (omega arith), λ h. absurd (closed-not-finished (h .0)))
@@ -198,8 +198,8 @@ unfolding copyRule
 copy-rule-kept running R a b k e = (refl, refl)
 copy-rule-kept finished R a b k e = go (leb (length R) (length a)) (leb (length R) (length b)) e
   where
-    go : (x y : Bool) → outcome R a b x y .result ≡ notCopied k → (outcome R a b x y .patternsLeft ≡ a)
-        × (outcome R a b x y .countsLeft ≡ b)
+    go : (x y : Bool) → outcome R a b x y .result ≡ notCopied k
+        → (outcome R a b x y .patternsLeft ≡ a) × (outcome R a b x y .countsLeft ≡ b)
     go true true e = let x : _≡_ {A = ℕ} 0 1 = cc in absurd (omega arith)
     go true false e = (refl, refl)
     go false y e = (refl, refl)

@@ -98,8 +98,8 @@ written f K a h = record { as-long = long K a h; rows = rows-at; past = past-at 
         ∙ ap (λ (k : ℕ). getD (map f (i .before ++ (r ∷ i .after)) ++ drop (length K) a) k 0) (sym (i .position))
         ∙ front (i .before) (i .after) r (drop (length K) a)
 
-    past-at : (K : List Row) (a : List ℕ) → length K ≤ length a → (p : ℕ) → length K ≤ p → getD (map f K ++ drop (length K) a) p 0
-        ≡ getD a p 0
+    past-at : (K : List Row) (a : List ℕ) → length K ≤ length a → (p : ℕ) → length K ≤ p
+        → getD (map f K ++ drop (length K) a) p 0 ≡ getD a p 0
     past-at [] a h p k = refl
     past-at (r ∷ K) [] h p k = absurd (omega arith)
     past-at (r ∷ K) (x ∷ a) h zero k = absurd (omega arith)
@@ -115,8 +115,8 @@ copy-right K a b =
       short = λ h. go h (leb (length K) (length a)) refl (leb (length K) (length b)) refl;
     }
   where
-    go : (length a < length K) ⊎ (length b < length K) → (x : Bool) → leb (length K) (length a) ≡ x → (y : Bool) → leb (length K) (length b)
-        ≡ y
+    go : (length a < length K) ⊎ (length b < length K) → (x : Bool) → leb (length K) (length a) ≡ x → (y : Bool)
+        → leb (length K) (length b) ≡ y
         → Refused 15 a b (cond x
         (cond y (record {
           result = copied (length K);

@@ -111,8 +111,8 @@ eqb-block k a b r s hr hs = go (ℕ-discrete a b) (ℕ-discrete r s)
     go (no e) f = rw (eqb-other (a * 2 ^ k + r) (b * 2 ^ k + s) (λ h. e (high h)), eqb-other a b e) refl
 
 -- the law: by their digits, the sign of the product α on the pattern σ
-pub sign-bits : (s α σ : ℕ) → α < 3 ^ s → σ < 3 ^ s → signBits (digitSet 1 s α) (digitSet 2 s α) (digitSet 1 s σ) (digitSet 2 s σ)
-    ≡ sign s α σ
+pub sign-bits : (s α σ : ℕ) → α < 3 ^ s → σ < 3 ^ s
+    → signBits (digitSet 1 s α) (digitSet 2 s α) (digitSet 1 s σ) (digitSet 2 s σ) ≡ sign s α σ
 unfolding signBits digitSet sign ones
 sign-bits zero α σ a b = refl
 sign-bits (suc s) α σ a b =

@@ -29,8 +29,8 @@ pub place-of : (q : ℕ) (l : List ℕ) → 0 < times q l → (k : ℕ) × (k < 
 place-of q [] h = absurd (omega (arith, times-nil q))
 place-of q (x ∷ l) h = go (ℕ-discrete q x) (place-of q l)
   where
-    go : Dec (q ≡ x) → (0 < times q l → (k : ℕ) × (k < length l) × (getD l k 0 ≡ q)) → (k : ℕ) × (k < length (x ∷ l))
-        × (getD (x ∷ l) k 0 ≡ q)
+    go : Dec (q ≡ x) → (0 < times q l → (k : ℕ) × (k < length l) × (getD l k 0 ≡ q))
+        → (k : ℕ) × (k < length (x ∷ l)) × (getD (x ∷ l) k 0 ≡ q)
     go (yes e) f = (0, omega arith, sym e)
     go (no e) f = let (k, i, p) = f (omega (arith, times-other q x l e)) in (suc k, omega arith, p)
 

@@ -32,8 +32,8 @@ pub putting-first : (k : ℕ) (mark : List ℕ) (f v : List ℤ) → Putting k m
 putting-first k mark f v =
     record { place = omega arith; ranked = sym (rank-zero k mark); long = refl; done = λ h i. absurd (omega arith); rest = λ h i. refl }
 
-pub putting-next : (k : ℕ) (mark : List ℕ) (f v₀ v w : List ℤ) (n n′ j : ℕ) → Putting k mark f v₀ v n j → j < length mark → length v₀
-    ≡ length mark
+pub putting-next : (k : ℕ) (mark : List ℕ) (f v₀ v w : List ℤ) (n n′ j : ℕ) → Putting k mark f v₀ v n j → j < length mark
+    → length v₀ ≡ length mark
     → n′ ≡ n + cond (leb k (countOf (getD mark j 0))) 1 0
     → w ≡ putOne (leb k (countOf (getD mark j 0))) v j (getD v j (pos 0) +ℤ getD f n (pos 0))
     → Putting k mark f v₀ w n′ (j + 1)
@@ -103,10 +103,10 @@ at-unique w L at d e g k y z h f =
     number-unique (getD L k 0 / w) (getD d (getD at k 0) (pos 0)) (getD e (getD at k 0) (pos 0)) (getD g (getD at k 0) (pos 0)) y z h f
 
 -- more than 64 already: no other numbers can do
-pub too-many : (w k left m : ℕ) (L at : List ℕ) (d e g out ws : List ℤ) (u : ℤ) → k < length L → length out ≡ length L → length ws
-    ≡ length L
-    → left + sumAbs (take k out) ≡ 64 → ((j : ℕ) → j < k → NumberAt w L at d e g j (getD out j (pos 0))) → NumberAt w L at d e g k u → m
-    ≡ natAbs u → left < m
+pub too-many : (w k left m : ℕ) (L at : List ℕ) (d e g out ws : List ℤ) (u : ℤ) → k < length L → length out ≡ length L
+    → length ws ≡ length L
+    → left + sumAbs (take k out) ≡ 64 → ((j : ℕ) → j < k → NumberAt w L at d e g j (getD out j (pos 0))) → NumberAt w L at d e g k u
+    → m ≡ natAbs u → left < m
     → ((j : ℕ) → j < length L → NumberAt w L at d e g j (getD ws j (pos 0))) → sumAbs ws ≤ 64 → ⊥
 too-many w k left m L at d e g out ws u h lo lw s f fu em hm f′ t =
     let same : take k out

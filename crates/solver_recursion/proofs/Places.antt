@@ -28,8 +28,8 @@ use Rattle.solutions.proofs.Bounds.{dist, size}
 
 -- ---- a number by its place
 
-pub part-at : (f : ℤ → ℕ) (L : List ℕ) (c : List ℤ) (j : ℕ) → Rising L → length c ≡ length L → j < length L → part f L c (getD L j 0)
-    ≡ f (getD c j (pos 0))
+pub part-at : (f : ℤ → ℕ) (L : List ℕ) (c : List ℤ) (j : ℕ) → Rising L → length c ≡ length L → j < length L
+    → part f L c (getD L j 0) ≡ f (getD c j (pos 0))
 unfolding Rising
 part-at f [] c j r e h = absurd (omega arith)
 part-at f (σ ∷ L) [] j r e h = absurd (omega arith)
@@ -77,8 +77,8 @@ lookup-first α [] B x h = absurd (omega (arith, times-nil α))
 lookup-first α (a ∷ A) B [] h = refl
 lookup-first α (a ∷ A) B (d ∷ x) h = go (ℕ-discrete α a) (lookup-first α A B x)
   where
-    go : Dec (α ≡ a) → (0 < times α A → lookup α (A ++ B) x ≡ lookup α A (take (length A) x)) → cond (eqb α a) d (lookup α (A ++ B) x)
-        ≡ cond (eqb α a) d (lookup α A (take (length A) x))
+    go : Dec (α ≡ a) → (0 < times α A → lookup α (A ++ B) x ≡ lookup α A (take (length A) x))
+        → cond (eqb α a) d (lookup α (A ++ B) x) ≡ cond (eqb α a) d (lookup α A (take (length A) x))
     go (yes e) ih = rw (e, eqb-same a) refl
     go (no e) ih = rw (eqb-other α a e) (ih (omega (arith, times-other α a A e)))
 
@@ -88,8 +88,8 @@ lookup-skip α [] B x h = refl
 lookup-skip α (a ∷ A) B [] h = sym (lookup-nil α B)
 lookup-skip α (a ∷ A) B (d ∷ x) h = go (ℕ-discrete α a) (lookup-skip α A B x)
   where
-    go : Dec (α ≡ a) → (times α A ≡ 0 → lookup α (A ++ B) x ≡ lookup α B (drop (length A) x)) → cond (eqb α a) d (lookup α (A ++ B) x)
-        ≡ lookup α B (drop (length A) x)
+    go : Dec (α ≡ a) → (times α A ≡ 0 → lookup α (A ++ B) x ≡ lookup α B (drop (length A) x))
+        → cond (eqb α a) d (lookup α (A ++ B) x) ≡ lookup α B (drop (length A) x)
     go (yes e) ih = let h′ : times a (a ∷ A) ≡ 0 = (rw e at h) in absurd (omega (arith, times-same a A))
     go (no e) ih = rw (eqb-other α a e) (ih (omega (arith, times-other α a A e)))
 
@@ -152,8 +152,8 @@ module _ (i : ℕ) (L : List ℕ) (x : List ℤ) where
               succ-times : (k : ℕ) → suc k * 3 ^ i ≡ k * 3 ^ i + 3 ^ i
               succ-times k = omega arith
 
-  pub block-1 : (n : ℕ) (α : ℕ) → 0 < times α A₂ → length A₂ ≤ n → lookup α A₂ (take n (drop (length A₁) x))
-      ≡ lookup (α + 1 * 3 ^ i) (adapted (suc i) L) x
+  pub block-1 : (n : ℕ) (α : ℕ) → 0 < times α A₂ → length A₂ ≤ n
+      → lookup α A₂ (take n (drop (length A₁) x)) ≡ lookup (α + 1 * 3 ^ i) (adapted (suc i) L) x
   unfolding adapted
   block-1 n α h b =
       lookup-take α n A₂ (drop (length A₁) x) b

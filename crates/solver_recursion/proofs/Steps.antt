@@ -225,8 +225,8 @@ rank-all k [] (m ∷ ms) e = absurd (omega arith)
 rank-all k (q ∷ l) [] e = absurd (omega arith)
 rank-all k (q ∷ l) (m ∷ ms) e = go (leb k (countOf m)) (rank-all k l ms (omega arith))
   where
-    go : (b : Bool) → rank k ms (length ms) ≡ length (chosen k l ms) → cond b 1 0 + rank k ms (length ms)
-        ≡ length (cond b (q ∷ chosen k l ms) (chosen k l ms))
+    go : (b : Bool) → rank k ms (length ms) ≡ length (chosen k l ms)
+        → cond b 1 0 + rank k ms (length ms) ≡ length (cond b (q ∷ chosen k l ms) (chosen k l ms))
     go true h = omega arith
     go false h = omega arith
 
@@ -417,8 +417,8 @@ module _ (i : ℕ) (L mark at : List ℕ) (x : List ℤ) (P : Posed (suc i) L x)
       unfolding kp kn signsOf
       known q h = go (placed q h)
         where
-          go : ((j : ℕ) × (j < length L₁) × (getD L₁ j 0 ≡ q)) ⊎ ((times q L₁ ≡ 0) × (signsOf i L q < 1)) → part up L₁ e₀ q + k₋ q
-              ≡ part dn L₁ e₀ q + k₊ q
+          go : ((j : ℕ) × (j < length L₁) × (getD L₁ j 0 ≡ q)) ⊎ ((times q L₁ ≡ 0) × (signsOf i L q < 1))
+              → part up L₁ e₀ q + k₋ q ≡ part dn L₁ e₀ q + k₊ q
           go (inl (j, l, e)) = rw (← e) (omega (arith, bal-e₀ j l, bal-at e₀ j le l))
           go (inr (z, s)) =
               omega (
@@ -524,8 +524,8 @@ module _ (i : ℕ) (L mark at : List ℕ) (x : List ℤ) (P : Posed (suc i) L x)
           unfolding lp ln signsOf
           known₃ q h = go (placed q h)
             where
-              go : ((j : ℕ) × (j < length L₁) × (getD L₁ j 0 ≡ q)) ⊎ ((times q L₁ ≡ 0) × (signsOf i L q < 1)) → part up L₁ g₀ q + l₋ q
-                  ≡ part dn L₁ g₀ q + l₊ q
+              go : ((j : ℕ) × (j < length L₁) × (getD L₁ j 0 ≡ q)) ⊎ ((times q L₁ ≡ 0) × (signsOf i L q < 1))
+                  → part up L₁ g₀ q + l₋ q ≡ part dn L₁ g₀ q + l₊ q
               go (inl (j, l, e)) = rw (← e) (omega (arith, bal-g₀ j l, bal-at g₀ j lg l))
               go (inr (z, s)) =
                   omega (

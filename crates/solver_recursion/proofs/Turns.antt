@@ -54,8 +54,8 @@ single-query : (i p : ℕ) (y : ℤ) → weighted i (p ∷ []) (y ∷ []) 0 ≡ 
 unfolding weighted
 single-query i p y = +ℤ-idr (sign i 0 p *ℤ y) ∙ ap (λ (z : ℤ). z *ℤ y) (sign-none i p) ∙ one-*ℤ y
 
-pub one-pattern : (i : ℕ) (L : List ℕ) (x out : List ℤ) (y : ℤ) → length L ≡ 1 → Below (3 ^ i) L → length x ≡ length L → length out
-    ≡ length L → Within 64 x
+pub one-pattern : (i : ℕ) (L : List ℕ) (x out : List ℤ) (y : ℤ) → length L ≡ 1 → Below (3 ^ i) L → length x ≡ length L
+    → length out ≡ length L → Within 64 x
     → y ≡ getD x 0 (pos 0) → Solution i L x (set out 0 y)
 unfolding Below sumAbs
 one-pattern i [] x out y h b e f w q = absurd (omega arith)
@@ -182,8 +182,8 @@ turn-restrictions i L m at x P Q =
         (drop (length (restrictions 1 i L) + length (restrictions 2 i L)) x)
         (omega (arith, length-drop (length (restrictions 1 i L) + length (restrictions 2 i L)) x))
 
-    end : (d e₀ f e g₀ h g out : List ℤ) (b : Bool) → Solution i (restrictions 1 i L) (take (length (restrictions 1 i L)) x) d → length e₀
-        ≡ length (restrictions 1 i L) → Second m d e₀
+    end : (d e₀ f e g₀ h g out : List ℤ) (b : Bool) → Solution i (restrictions 1 i L) (take (length (restrictions 1 i L)) x) d
+        → length e₀ ≡ length (restrictions 1 i L) → Second m d e₀
         → Solution i (restrictions 2 i L)
         (residuals i (restrictions 1 i L) e₀ (adapted i (restrictions 2 i L))
         (take (length (restrictions 2 i L)) (drop (length (restrictions 1 i L)) x))) f → length e ≡ length (restrictions 1 i L)

@@ -160,8 +160,8 @@ query-next a₁ a₂ j o t v x y total h e f s n =
     (bitSum a₁ a₂ (drop (suc j) o) (drop (suc j) t) (drop (suc j) v))
     ∙ ap (λ (z : ℤ). x +ℤ z) (sym (sum-next a₁ a₂ j o t v h e f)) ∙ s)
 
-pub query-last : (a₁ a₂ j : ℕ) (o t : List ℕ) (v : List ℤ) (x total : ℤ) → length o ≤ j → x +ℤ bitSum a₁ a₂ (drop j o) (drop j t) (drop j v)
-    ≡ total → x ≡ total
+pub query-last : (a₁ a₂ j : ℕ) (o t : List ℕ) (v : List ℤ) (x total : ℤ) → length o ≤ j
+    → x +ℤ bitSum a₁ a₂ (drop j o) (drop j t) (drop j v) ≡ total → x ≡ total
 unfolding bitSum
 query-last a₁ a₂ j o t v x total h s = sym (+ℤ-idr x) ∙ ap (λ (z : ℤ). x +ℤ z) (sym nothing) ∙ s
   where
@@ -194,8 +194,8 @@ unfolding Below
 below-all b [] f = tt
 below-all b (x ∷ l) f = (f x (omega (arith, times-same x l)), below-all b l (λ q h. f q (omega (arith, times-cons q x l))))
 
-pub adapted-list : (i : ℕ) (l a a′ : List ℕ) → Rising l → Below (3 ^ i) l → length a ≡ length l → a′ ≡ sets a 0 (shift 0 (adapted i l)) → a′
-    ≡ adapted i l
+pub adapted-list : (i : ℕ) (l a a′ : List ℕ) → Rising l → Below (3 ^ i) l → length a ≡ length l → a′ ≡ sets a 0 (shift 0 (adapted i l))
+    → a′ ≡ adapted i l
 adapted-list i l a a′ r b e f = f ∙ rw (shift-zero (adapted i l)) (sets-whole (adapted i l) a (as-many i l r b ∙ sym e))
 
 pub adapted-small : (i : ℕ) (l : List ℕ) → Below (3 ^ i) (adapted i l)
@@ -204,8 +204,8 @@ adapted-small i l = below-all (3 ^ i) (adapted i l) (λ q h. adapted-below i q l
 -- ---- left_over
 
 -- what the code works out residuals
-pub left-over : (i c : ℕ) (l′ l o t : List ℕ) (v u x r : List ℤ) → Rising l′ → Below (3 ^ i) l′ → length x ≡ length l′ → length r
-    ≡ length l′
+pub left-over : (i c : ℕ) (l′ l o t : List ℕ) (v u x r : List ℤ) → Rising l′ → Below (3 ^ i) l′ → length x ≡ length l′
+    → length r ≡ length l′
     → Gathered i l v c o t u → Subtracted i (adapted i l′) (take c o) (take c t) (take c u) x r → r ≡ residuals i l v (adapted i l′) x
 left-over i c l′ l o t v u x r ri be lx lr G R =
     let n = as-many i l′ ri be in

@@ -76,8 +76,8 @@ other-bits x h = go (decLt 0 (natAbs x))
 
 -- ---- what residuals of the numbers asked
 
-pub residuals-length : (i : ℕ) (l : List ℕ) (v : List ℤ) (A : List ℕ) (x : List ℤ) → length x ≡ length A → length (residuals i l v A x)
-    ≡ length A
+pub residuals-length : (i : ℕ) (l : List ℕ) (v : List ℤ) (A : List ℕ) (x : List ℤ) → length x ≡ length A
+    → length (residuals i l v A x) ≡ length A
 unfolding residuals
 residuals-length i l v [] x e = refl
 residuals-length i l v (α ∷ A) [] e = absurd (omega arith)

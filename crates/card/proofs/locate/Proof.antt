@@ -30,8 +30,8 @@ offset-requires c κs = let h = held _ _ (good c) in omega arith
 size-requires : tie.Need-size-requires
 size-requires c κs = let h = held _ _ (good (c .before)) in omega arith
 
-where-at : (c : List ℕ) (j start len : ℕ) → start ≡ offset c j → len ≡ size c start → Stretch.At start len
-    ≡ Stretch.At (offset c j) (size c (offset c j))
+where-at : (c : List ℕ) (j start len : ℕ) → start ≡ offset c j → len ≡ size c start
+    → Stretch.At start len ≡ Stretch.At (offset c j) (size c (offset c j))
 where-at c j start len e f = rw (f, e)
 
 returns-2 : tie.Need-returns-2

@@ -16,7 +16,7 @@ use Rattle.layout.specs.Format.{offset}
 use Rattle.layout.specs.Body.{Whole}
 use Rattle.polynomials.specs.Values.{evaluate}
 use Rattle.layout.specs.Values.{coefficients, value}
-use Rattle.layout.proofs.CoefficientLists.{polynomial-within, evaluate-polynomial}
+use Rattle.layout.proofs.CoefficientLists.{coefficients-within, evaluate-coefficients}
 use Rattle.card.specs.declared.Evaluated.the-variants as Evaluated
 use Rattle.card.specs.Card.{positionRefusal}
 use Rattle.card.specs.Answers.{valueAnswer}
@@ -43,10 +43,10 @@ module _ (c : List ℕ) (j at : ℕ) (h : positionRefusal c j ≡ 0) (e : at ≡
 
   module _ (p : List ℤ) (d : p ≡ coefficients c at) where
     within : Within mostCoefficient p
-    within = rw (d, e) (polynomial-within c (offset c j) (held c j h .body .small))
+    within = rw (d, e) (coefficients-within c (offset c j) (held c j h .body .small))
 
     its-value : (x : ℤ) → evaluate p x ≡ value c (offset c j) x
-    its-value x = rw (d, e) (evaluate-polynomial c (offset c j) x (held c j h .body .small .whole .low))
+    its-value x = rw (d, e) (evaluate-coefficients c (offset c j) x (held c j h .body .small .whole .low))
 
 check-position-requires : tie.Need-check-position-requires
 check-position-requires c κs = search needs

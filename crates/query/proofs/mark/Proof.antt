@@ -40,8 +40,8 @@ bits-long c d j = length-map (contentsOf c .points) _ ∙ points-long c
 
 -- one turn: the bit of point k − 1, by the digit t of the sign there, for which there is room
 module _ (c : List ℕ) (d j k x : ℕ) (h : 0 < k) (e : x ≡ wordOf (drop k (bits c d j))) where
-  turned : (t b : ℕ) → k ≤ pointCount c → b ≡ bitOf t d → t ≡ signDigit (valueOf c j (k - 1)) → 2 * x + b
-      ≡ wordOf (drop (k - 1) (bits c d j))
+  turned : (t b : ℕ) → k ≤ pointCount c → b ≡ bitOf t d → t ≡ signDigit (valueOf c j (k - 1))
+      → 2 * x + b ≡ wordOf (drop (k - 1) (bits c d j))
   turned t b g eb et =
       word-turn (bits c d j) k x b h (omega (arith, bits-long c d j))
       (eb ∙ ap (λ (y : ℕ). bitOf y d) et
@@ -57,8 +57,8 @@ module _ (c : List ℕ) (sound : Sound c) (j from k : ℕ) (x : ℤ) (h : k < po
   within : natAbs (toZ w64 (ofZ w64 x)) ≤ 128
   within = rw (toZ-ofZ f, ex, ef) (point-within c sound k h)
 
-  digit-is : (p : List ℤ) (at d : ℕ) → j < polynomials c → p ≡ coefficients c at → at ≡ offset c j → d
-      ≡ signDigit (evaluate p (toZ w64 (ofZ w64 x)))
+  digit-is : (p : List ℤ) (at d : ℕ) → j < polynomials c → p ≡ coefficients c at → at ≡ offset c j
+      → d ≡ signDigit (evaluate p (toZ w64 (ofZ w64 x)))
       → d ≡ signDigit (valueOf c j k)
   digit-is p at d b ep ea e = (rw (toZ-ofZ f, ex, ef, ep, ea) at e) ∙ ap signDigit (point-value c sound j k b)
 

@@ -13,8 +13,8 @@ use Rattle.run_parts.proofs.copy_front.Tie as tie
 copied-length : (k n : ℕ) (l o : List ℕ) → k ≤ n → n ≤ length l → n ≤ length o → length (take k l ++ drop k o) ≡ length o
 copied-length k n l o h g f = rw (length-append (take k l) (drop k o), length-take-le k l (omega arith), length-drop k o) (omega arith)
 
-copied-next : (k n : ℕ) (l o : List ℕ) → k < n → n ≤ length l → n ≤ length o → set (take k l ++ drop k o) k (getD l k 0)
-    ≡ take (k + 1) l ++ drop (k + 1) o
+copied-next : (k n : ℕ) (l o : List ℕ) → k < n → n ≤ length l → n ≤ length o
+    → set (take k l ++ drop k o) k (getD l k 0) ≡ take (k + 1) l ++ drop (k + 1) o
 copied-next k n l o h g f =
     let a : k < length l = omega arith in
     let b : k < length o = omega arith in
