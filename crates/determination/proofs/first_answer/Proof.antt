@@ -45,8 +45,8 @@ returns-2 c =
     let m = rw e at (c .before .before .magnitude .ensures) in
     c .close2 .ensures ∙ sym (first-above roundRows (runningState (st .args .run)) (st .args .a) g (omega (arith, c .before .if2 .taken)))
 
-first-answer-rows-requires : tie.Need-first-answer-rows-requires
-first-answer-rows-requires c κs = search needs
+first-rows-requires : tie.Need-first-rows-requires
+first-rows-requires c κs = search needs
 
 finish-requires : tie.Need-finish-requires
 finish-requires c κs =
@@ -61,21 +61,21 @@ returns-3 c =
     let m = rw e at (c .before .before .before .before .magnitude .ensures) in
     let z : natAbs (st .args .a) ≡ 0 = omega (arith, c .before .before .if3 .taken) in
     let f = first-some roundRows (runningState (st .args .run)) (st .args .a) g (omega arith) in
-    rw (f, z) (rw (c .before .first-answer-rows .ensures .0) at (c .finish .ensures))
+    rw (f, z) (rw (c .before .first-rows .ensures .0) at (c .finish .ensures))
 
-cast-first-answer-rows : tie.Need-cast-first-answer-rows
-cast-first-answer-rows c = search needs
+cast-first-rows : tie.Need-cast-first-rows
+cast-first-rows c = search needs
 
-first-answer-rows-requires-2 : tie.Need-first-answer-rows-requires-2
-first-answer-rows-requires-2 c κs = search needs
+first-rows-requires-2 : tie.Need-first-rows-requires-2
+first-rows-requires-2 c κs = search needs
 
 begin-requires : tie.Need-begin-requires
 begin-requires c κs =
     let st = c .before .before .before .before .before in
     let l = sound-limits (st .args .run) (running-sound (st .args .run) (st .pre .0)) in
-    let z = l .at-first-answer (st .pre .1) in
+    let z = l .at-first (st .pre .1) in
     let m : 0 < c .before .before .before .magnitude .result = omega (arith, c .before .if3 .left) in
-    let f = c .first-answer-rows2 .ensures in
+    let f = c .first-rows2 .ensures in
     let k = f .2 m in (
       (running-phase (st .args .run) (st .pre .0), omega arith, l .most, omega arith, omega arith),
       ((omega arith, omega arith), (rw (k .1) rising-one, rw (k .1) below-one)),
@@ -89,7 +89,7 @@ returns-4 c =
     let m = rw e at (c .before .before .before .before .magnitude .ensures) in
     let f = first-some roundRows (runningState (st .args .run)) (st .args .a) g (omega arith) in
     let z = ne-eqb (natAbs (st .args .a)) 0 (λ y. c .before .before .if3 .left (m ∙ y)) in
-    rw (f, z) (rw (c .before .first-answer-rows2 .ensures .0, m) at (c .begin .ensures))
+    rw (f, z) (rw (c .before .first-rows2 .ensures .0, m) at (c .begin .ensures))
 
 pub first-answer-spec : {M : Type 1} → statement M
 first-answer-spec =
@@ -100,10 +100,10 @@ first-answer-spec =
     magnitude-requires
     close-requires-2
     returns-2
-    first-answer-rows-requires
+    first-rows-requires
     finish-requires
     returns-3
-    cast-first-answer-rows
-    first-answer-rows-requires-2
+    cast-first-rows
+    first-rows-requires-2
     begin-requires
     returns-4)
