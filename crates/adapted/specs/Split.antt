@@ -1,5 +1,5 @@
 -- The last polynomial taken off a rising list of patterns, as the code does it: by merging the three blocks of the list. Definitions of
--- inner functions; the laws that tie them to `lows` and `adapted` are in proofs/Adapting.antt.
+-- inner functions; the laws that tie them to `restrictions` and `adapted` are in proofs/Adapting.antt.
 --
 --   leading b l             == how many elements of l stand before the first that is not below b
 --   headOf l k e b w        == the element of l at k less b, where k is before e, else w

@@ -1,8 +1,8 @@
 -- What a sound body of a polynomial is (document 01, "The card").
 --
 --   Whole c at == the body that begins at byte `at` lies on the card c, and its degree is at most 6
---   Small c at == and its coefficients are from −1,000,000 to 1,000,000
---   Body c at  == and the top one is not 0 unless the degree is
+--   Small c at == it is `Whole`, and its coefficients are from −1,000,000 to 1,000,000
+--   Body c at  == it is `Small`, and its top coefficient is not 0 unless its degree is: a sound body
 use mathlib.Core.Path.{_≡_}
 use mathlib.Core.List.{List}
 use Prim.Native.Nat.{ℕ, _+_, _≤_, _<_}

@@ -3,13 +3,13 @@
 --   byte c i           == byte i, from 0 (0 past the end)
 --   two's h b          == what b stands for in two's complement: itself below h, and b − 2h from h on
 --   polynomials c      == s, how many polynomials the card says it has
---   pointCount c       == n, how many points it says it has
+--   pointCount c       == n, how many points the card says it has
 --   offset c j         == offset j, from 0, of the contents: two bytes, high byte first
 --   bodiesAt c         == where the first body begins: after 4 bytes and s + 1 offsets
 --   degree c at        == the degree of the polynomial whose body begins at byte `at`
 --   word c i           == the four bytes from byte i on, high byte first
---   size c at          == how many bytes that body has: one, and four for each of its d + 1 coefficients
---   coefficient c at i == its coefficient of X^i: four bytes, two's complement, high byte first
+--   size c at          == how many bytes the body that begins at byte `at` has: one, and four for each of its d + 1 coefficients
+--   coefficient c at i == the coefficient of X^i in the body that begins at byte `at`: four bytes, two's complement, high byte first
 --   point c at k       == point k, from 0, of the points that begin at byte `at`: a signed byte
 --   pointsAt c         == the byte where the points begin, by the contents
 --   pointOf c k        == point k of the card

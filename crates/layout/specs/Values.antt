@@ -1,8 +1,10 @@
 -- The values of a card's polynomials.
 --
 --   coefficientBelow c at m i == coefficient i of the polynomial whose body begins at byte `at`, and 0 from i = m on
---   coefficients c at         == all its coefficients, and 0 above its degree: seven in all
---   value c at x              == the value at x of that polynomial: the sum of its d + 1 coefficients times x^i
+--   coefficients c at         == the coefficients of the polynomial whose body begins at byte `at`, from the constant up, and 0 above its
+--                                degree: seven in all
+--   value c at x              == the value at x of the polynomial whose body begins at byte `at`: the sum of its d + 1 coefficients times
+--                                x^i
 --   valueOf c j k             == the value of polynomial j, from 0, of the card at its point k
 use mathlib.Core.Bool.{cond}
 use mathlib.Core.List.{List, [], _∷_}

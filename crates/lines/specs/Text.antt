@@ -5,8 +5,8 @@
 --   signed z      == an integer: `-` before a negative one
 --   questionLine product answer, rowLine pattern count, endLine questions, refusalLine number
 --                 == "Q product answer; S pattern count; E questions", and "`R` and its number", each with a newline at its end
---   textOf l == the text that a line of the code holds: its front bytes
---   lineRoom == 80, the bytes that a line of the code has room for
+--   textOf l      == the text that a line of the code holds: its front bytes
+--   lineRoom      == 80, the bytes that a line of the code has room for
 use mathlib.Core.Bool.{cond}
 use mathlib.Core.List.{List, [], _∷_, _++_}
 use Prim.Native.Nat.{ℕ, zero, suc, _+_, _/_, _%_}

@@ -1,4 +1,4 @@
--- THEOREM: the lines of a play from the beginning on a card are `linesOf` the card, at most 658, and then it is over. On a sound card the
+-- THEOREM: the lines of a printout from the beginning on are `linesOf` the card, at most 658, and then it is over. On a sound card the
 -- run answered by the card's queries ends done, with the patterns of the card's points, each with its number of points.
 use mathlib.Core.Path.{_≡_, refl, sym, ap, _∙_, subst}
 use mathlib.Core.List.{List, [], _∷_, _++_, append-assoc, append-nil}

@@ -6,7 +6,7 @@
 --   pointBits K d j  == of each point of the contents K: 1 where the sign digit of polynomial j there is d, else 0
 --   signWord K d j   == the points where the sign digit of polynomial j is d, one bit each
 --   wordIn K d s j   == the word of signs d of polynomial j where j is below s, and 0 from s on
---   wordsIn K d      == these words for all polynomials, eight in all
+--   wordsIn K d      == the words of the sign digit d for all polynomials, eight in all
 --   openedSound K    == the contents K opened: s, n and the words of the signs, + and −
 --   openedRefused m  == a card refused by the number m: no polynomials and no points
 --   opened c         == the card c opened
@@ -18,7 +18,7 @@
 --   refusedBy o α    == the number that refuses the opened card o or the product α, or 0: its own, then 3 where s or n is outside its
 --                       limits, then 13 for the product. No card opens to a number of none or outside the limits: an opened card may hold
 --                       anything
---   openedAnswer o α == what an opened card answers: that number, else the sum
+--   openedAnswer o α == what the opened card o answers to the product α: the number that refuses, else the sum
 use mathlib.Core.Bool.{Bool, cond, _||_}
 use mathlib.Core.List.{List, [], _∷_, map}
 use Prim.Native.Nat.{ℕ, zero, suc, _+_, _*_, _/_, _%_, _^_}

@@ -3,7 +3,7 @@
 -- A row of count d, extended by the three signs of the next polynomial, has counts with sign 0, + and −. Let e be + less −, and g + and −.
 --
 --   withZero, withPlus, withMinus == the three counts d − g, (g + e) / 2 and (g − e) / 2, from d, e and g
---   splits d e g                  == the test that they are whole numbers, 0 or more
+--   splits d e g                  == the test that the three counts from d, e and g are whole numbers, 0 or more
 --   allSplit R es gs              == the test that each row of R splits, with e and g in es and gs
 --   extendedBy c f R es gs        == the rows of R with c added to the pattern and the count f of d, e and g, those with a count above 0
 --   extendedRows i R es gs        == the rows of R extended by each of the three signs

@@ -2,7 +2,8 @@
 --
 --   NextRows i R₀ ws R == R are the rows after round i + 1: they split the counts of R₀ by the sign of P(i+1), and give the round's answers
 --                         ws
---   RightRows N        == N gives such rows where there are some, and none where there are none (10), on rows of at most 64 points
+--   RightRows N        == N gives the rows of `NextRows` where there are some, and none where there are none (10), on rows of at most 64
+--                         points
 use mathlib.Core.Path.{_≡_}
 use mathlib.Core.Option.{Option, some, none}
 use mathlib.Core.List.{List}

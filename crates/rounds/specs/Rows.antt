@@ -9,7 +9,8 @@
 --   rowsOf n c           == the rows of the patterns below n that have a count c above 0, rising
 --   restrict i E         == the patterns of P1 .. Pi alone, of points with the patterns E
 --   Oracle s E           == E is what an examiner holds: "at most 64 sign patterns, repeats counted", of s polynomials
---   realized s E         == its key: "each pattern number held, once, rising, with how often it is held; it may be empty"
+--   realized s E         == the key of an examiner that holds E: "each pattern number held, once, rising, with how often it is held; it may
+--                           be empty"
 --   IsRealized E K       == K is the realized list of E, in demand 3's words: "each pattern that occurs, once, in rising order, with its
 --                           true count"
 --   Fits s E ps zs       == E fits the answers zs to the products ps: "each answer taken is the sum, over the patterns held, repeats

@@ -1,8 +1,9 @@
 -- The parts of a run that need no record.
 --
 --   inLimits s asked round n rows answered == the test of a running record's numbers: 1 to 8 polynomials, a round of theirs, at most 64
---                 points and rows, fewer answers than the round has products, and no more questions than such rounds can have had
---   heldRows h == the rows that stand at the front of two arrays
+--                                             points and rows, fewer answers than the round has products, and no more questions than such
+--                                             rounds can have had
+--   heldRows h                             == the rows that stand at the front of two arrays
 use mathlib.Core.Bool.{Bool, cond, _&&_}
 use mathlib.Core.List.{List}
 use Prim.Native.Nat.{ℕ, _+_, _*_}

@@ -1,7 +1,7 @@
 -- The steps of a round's end as the code takes them.
 --
 --   withSign t           == the count with the sign of the digit t: `withZero` for 0, `withPlus` for 1, `withMinus` for 2
---   signRows w t R es gs == the rows of R extended by that sign, those with a count above 0; w is the weight of the new digit
+--   signRows w t R es gs == the rows of R extended by the sign of the digit t, those with a count above 0; w is the weight of the new digit
 --   properCounts C       == the test that the counts C are above 0 and add up to at most 64
 --   Solved o r ws        == what a question to the solver leaves: whether there is a solution, and the solution
 use mathlib.Core.Path.{_≡_}

@@ -1,7 +1,7 @@
 -- What every record holds that calls reach from a start: bounds that a test of a record may ask for.
 --
---   InRound r i == of a record in round i + 1
---   Reached s r == of a record in any phase; before the first answer it is as the start left it
+--   InRound r i == what the record r holds in round i + 1
+--   Reached s r == what the record r of a run for s polynomials holds in any phase; before the first answer it is as the start left it
 use mathlib.Core.Path.{_≡_}
 use Prim.Native.Nat.{ℕ, suc, _+_, _*_, _<_, _≤_}
 use lib.ListN.{length}

@@ -6,8 +6,9 @@
 --                               digits in o, t
 --   digitSum i α o t v       == the sum of the numbers v, each times the sign of the product α of i polynomials on the pattern with digits
 --                               in o, t
---   Subtracted i a o t v x r == r is x less these sums for the products a
---   Gathered i l v n o t u   == the first n of o, t, u hold the digits of patterns of l with their numbers of v: these sums are the queries
+--   Subtracted i a o t v x r == r is x less the `digitSum` of each product of a
+--   Gathered i l v n o t u   == the first n of o, t, u hold the digits of patterns of l with their numbers of v, whose `digitSum` is the
+--                               query
 use mathlib.Core.Path.{_≡_}
 use mathlib.Core.Bool.{Bool}
 use mathlib.Core.List.{List, [], _∷_}

@@ -21,6 +21,7 @@ pub fn read_argument(i: usize, out: &mut [u8]) -> usize
     n
 }
 
+// A byte as a wider number.
 pub fn wide(x: u8) -> usize
     ensures { λ r. ⌜ r < 256 ⌝ }
 {
