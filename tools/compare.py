@@ -1,17 +1,18 @@
 #!/usr/bin/env python3
 """Compares askcard with a second program that takes another route, on random cards, byte for byte.
 
-    tools/compare.py [--seed N] [--cards N] [PROGRAM]        (6,000 cards take half a minute)
+    tools/compare.py [--seed N|day] [--cards N] [PROGRAM]        (6,000 cards take half a minute)
 
 The route here: a card is parsed by slicing from the front; the pattern of a point comes straight from the values of the polynomials there; a
 query multiplies the values, exactly; the rows are the patterns counted; the adapted list of a round is found as 000 has it, the first
-products whose rows of signs are independent, by elimination over fractions where the list is short, else by its recursion over sets. There is
-no solver. The cards are those of examples/, inputs that are no cards, one of them slow and one long, and then cards drawn from the seed: sound
-ones of every size, and damaged ones, each cause of document 01's table among them.
+products whose rows of signs are independent, by elimination, where that is short enough, else by its recursion over sets. There is no solver.
+The cards are those of examples/, inputs that are no cards, one of them slow and one long, and then cards drawn from the seed, a number or that of
+the day: sound ones of every size, and damaged ones of every kind. It fails where a number that refuses a card, a kind of damage, or a list of more
+than three polynomials found by independence did not occur.
 """
 import argparse
 import collections
-import fractions
+import datetime
 import functools
 import glob
 import itertools
@@ -22,6 +23,8 @@ import sys
 import time
 
 LARGEST = 1_000_000
+PRIME = 2 ** 61 - 1  # above every minor of 24 rows of signs: so many rows are independent modulo it exactly where they are independent
+SHORT = 20_000  # steps of an elimination that is short enough
 
 
 # ---- the second program
@@ -97,17 +100,18 @@ def first_independent(patterns, s):
     chosen, basis = [], []
     for product in range(3 ** s):
         powers = digits(product, s)
-        row = [fractions.Fraction(1) for _ in patterns]
+        row = [1 for _ in patterns]
         for k, pattern in enumerate(patterns):
             for digit, power in zip(digits(pattern, s), powers):
                 row[k] *= (0, 1, -1)[digit] ** power
         for pivot, other in basis:
-            if row[pivot]:
-                scale = row[pivot] / other[pivot]
-                row = [x - scale * y for x, y in zip(row, other)]
-        pivot = next((k for k, x in enumerate(row) if x), None)
+            scale = row[pivot]
+            if scale:
+                row = [(x - scale * y) % PRIME for x, y in zip(row, other)]
+        pivot = next((k for k, x in enumerate(row) if x % PRIME), None)
         if pivot is not None:
-            basis.append((pivot, row))
+            inverse = pow(row[pivot], -1, PRIME)
+            basis.append((pivot, [x * inverse % PRIME for x in row]))
             chosen.append(product)
         if len(chosen) == len(patterns):
             break
@@ -121,14 +125,18 @@ def by_recursion(patterns, s):
     stood = collections.Counter(p % weight for p in patterns)
     products = []
     for power in range(3):
-        lows = {q for q, signs in stood.items() if signs > power}
-        products += [a + power * weight for a in by_recursion(lows, s - 1)]
+        left = {q for q, signs in stood.items() if signs > power}
+        products += [a + power * weight for a in by_recursion(left, s - 1)]
     return products
+
+
+independent = collections.Counter()  # how many lists of s polynomials were found by independence
 
 
 @functools.lru_cache(maxsize=100_000)
 def adapted(patterns, s):
-    if s <= 3 and len(patterns) <= 12:
+    if len(patterns) <= 24 and 3 ** s * len(patterns) ** 2 <= SHORT:
+        independent[s] += 1
         return first_independent(sorted(patterns), s)
     return by_recursion(patterns, s)
 
@@ -198,10 +206,15 @@ def sound(draw):
     return [polynomial(draw, points) for _ in range(s)], points
 
 
+KINDS = 12  # of damage
+damage = collections.Counter()  # how often each kind was done
+
+
 def damaged(draw):
     polynomials, points = sound(draw)
     card = bytearray(write(polynomials, points))
-    kind = draw.randrange(12)
+    kind = draw.randrange(KINDS)
+    damage[kind] += 1
     if kind == 0:
         return bytes(card[:draw.randrange(len(card))])
     if kind == 1:
@@ -262,11 +275,12 @@ def ask(program, card, slowly=False):
 
 def main():
     words = argparse.ArgumentParser(description=__doc__.splitlines()[0])
-    words.add_argument('--seed', type=int, default=1)
+    words.add_argument('--seed', default='1', help="a number, or 'day' for the day's")
     words.add_argument('--cards', type=int, default=6000, help='how many to draw; every third is damaged')
     words.add_argument('program', nargs='?', default=os.path.join('target', 'bin', 'askcard'))
     words = words.parse_args()
-    draw = random.Random(words.seed)
+    seed = int(datetime.date.today().strftime('%Y%m%d') if words.seed == 'day' else words.seed)
+    draw = random.Random(seed)
     drawn = (damaged(draw) if number % 3 == 2 else write(*sound(draw)) for number in range(words.cards))
     told = collections.Counter()
     most = 0
@@ -275,14 +289,20 @@ def main():
         want = printout(card)
         got = ask(words.program, card, slowly)
         if got != want.encode():
-            print(f'card {number} of seed {words.seed} differs: {card[:400].hex()}')
+            print(f'card {number} of seed {seed} differs: {card[:400].hex()}')
             print(f'askcard:\n{got.decode(errors="replace") if got is not None else "failed"}\nthe second program:\n{want}', end='')
             return 1
         told[want.split()[1] if want.startswith('R') else 'sound'] += 1
         most = max(most, want.count('Q'))
     refused = ', '.join(f'{told[k]} by {k}' for k in sorted(told) if k != 'sound')
-    print(f'{sum(told.values())} cards, {told["sound"]} of them sound, the longest run {most} questions; refused: {refused}; no difference')
-    return 0
+    print(f'seed {seed}: {sum(told.values())} cards, {told["sound"]} of them sound, the longest run {most} questions; refused: {refused}; '
+          f'{sum(independent.values())} lists found by independence, {sum(independent[k] for k in independent if k > 3)} of them of more than 3 polynomials; no difference')
+    missing = [f'refusal {k}' for k in range(1, 7) if not told[str(k)]] + [f'damage of kind {k}' for k in range(KINDS) if not damage[k]]
+    missing += [] if told['sound'] else ['a sound card']
+    missing += [] if any(k > 3 for k in independent) else ['a list of more than 3 polynomials found by independence']
+    if missing:
+        print('did not occur: ' + ', '.join(missing))
+    return 1 if missing else 0
 
 
 if __name__ == '__main__':

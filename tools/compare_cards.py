@@ -1,15 +1,17 @@
 #!/usr/bin/env python3
 """Compares what the library says about cards, by the program card_tests, with a second reader written here from document 01 alone.
 
-usage: python3 tools/compare_cards.py [SEED [SOUND [BASES]]]    compares; prints one line of counts, exits 1 at a difference
-       python3 tools/compare_cards.py --data                    writes crates/card_tests/data/cards and crates/card_tests/stdout
+usage: python3 tools/compare_cards.py [SEED|day [SOUND [BASES]]]    compares; prints one line of counts, exits 1 at a difference
+       python3 tools/compare_cards.py --data                        writes crates/card_tests/data/cards and crates/card_tests/stdout
 
 SOUND cards are drawn, of every s and every n in turn. BASES more are drawn and damaged: cut at every length, every byte changed by some values,
 every cause of the refusal table at every place that it can have, and two such causes at once. Each card is asked about some products. The second
 reader goes another way: it takes the bytes off one after the other, works out values by powers and not by Horner's rule, and a query by the exact
-product of the values to their powers and not by signs. SEED, SOUND and BASES decide every card.
+product of the values to their powers and not by signs. SEED (day: that of
+the day), SOUND and BASES decide every card. It fails where a number that refuses a card did not occur.
 """
 
+import datetime
 import math
 import os
 import random
@@ -295,12 +297,15 @@ def draw(seed, sounds, bases):
 
 
 def show(seed, sounds, bases):
-    """Compares and prints the counts: of the damaged cards some are sound, as one with another coefficient."""
+    """Compares and prints the counts: of the damaged cards some are sound, as one with another coefficient. Fails where a number never occurred."""
     whole, broken = draw(seed, sounds, bases)
     seen = compare(whole + broken)
+    missing = {'sound', '1', '2', '3', '4', '5', '6'} - set(seen)
+    if missing or not whole or not broken:
+        sys.exit('compare_cards: did not occur: ' + ', '.join(sorted(missing) or ['a card']))
     asked = sum(len(products) for _, products in whole + broken)
     found = ', '.join('%s: %d' % (key, seen[key]) for key in sorted(seen))
-    print('compare_cards: %d sound and %d damaged cards, %d queries, no difference (by number %s)' % (len(whole), len(broken), asked, found))
+    print('compare_cards: seed %d: %d sound and %d damaged cards, %d queries, no difference (by number %s)' % (seed, len(whole), len(broken), asked, found))
 
 
 # ---- the committed file
@@ -334,7 +339,7 @@ def store():
 def main(arguments):
     if arguments == ['--data']:
         return store()
-    numbers = [int(a) for a in arguments] + [593, 2080, 36][len(arguments):]
+    numbers = [int(datetime.date.today().strftime('%Y%m%d') if a == 'day' else a) for a in arguments] + [593, 2080, 36][len(arguments):]
     return show(*numbers)
 
 
