@@ -1,10 +1,10 @@
 -- Theorem: numeric order is 000's lexicographic order. Numbers are taken apart from the bottom: digit j + 1 of n is digit j of n / 3.
-use mathlib.Core.Path.{_≡_, refl, sym, ap, _∙_, subst}
-use Prim.Native.Nat.{ℕ, zero, suc, _+_, _*_, _^_, _/_, _%_, _<_}
+use mathlib.Core.Path.{_≡_, refl, sym, ap, _∙_}
+use Prim.Native.Nat.{ℕ, zero, suc, _+_, _^_, _/_, _%_, _<_}
 use native.Mathlib.Omega.{arith}
-use native.Mathlib.Decide.{ℕ-discrete, decLt}
+use native.Mathlib.Decide.{decLt}
 use native.Mathlib.Nat.{pow-succ', div-one, div-div-eq-div-mul}
-use lib.IntN.{ℤ, pos, negsuc}
+use lib.IntN.{ℤ}
 use Rattle.signs.specs.Signs.{signOf, signDigit}
 use Rattle.signs.specs.Order.{powerAt, signAt, _≺_, zero-plus, zero-minus, plus-minus, Lexicographic, NumericOrder}
 
