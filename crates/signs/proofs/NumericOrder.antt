@@ -1,10 +1,12 @@
 -- Theorem: numeric order is 000's lexicographic order. Numbers are taken apart from the bottom: digit j + 1 of n is digit j of n / 3.
 use mathlib.Core.Path.{_≡_, refl, sym, ap, _∙_}
-use Prim.Native.Nat.{ℕ, zero, suc, _+_, _^_, _/_, _%_, _<_}
+use Prim.Native.Nat.{ℕ, zero, suc, _+_, _*_, _^_, _/_, _%_, _<_}
 use native.Mathlib.Omega.{arith}
 use native.Mathlib.Decide.{decLt}
-use native.Mathlib.Nat.{pow-succ', div-one, div-div-eq-div-mul}
+use native.Mathlib.Nat.{pow-succ', one-le-pow, div-one, div-div-eq-div-mul, mod-eq-of-lt}
+use lib.Arith.{mod-mul}
 use lib.IntN.{ℤ}
+use Rattle.signs.specs.Lists.{total}
 use Rattle.signs.specs.Signs.{signOf, signDigit}
 use Rattle.signs.specs.Order.{powerAt, signAt, _≺_, zero-plus, zero-minus, plus-minus, Lexicographic, NumericOrder}
 
@@ -18,6 +20,18 @@ digit-suc j n = ap (λ (x : ℕ). x % 3) (ap (λ (x : ℕ). n / x) (pow-succ' 3 
 
 less : (s n : ℕ) → n < 3 ^ suc s → n / 3 < 3 ^ s
 less s n h = omega (arith, pow-succ' 3 s)
+
+-- a number is the sum of its digits, each times its power of 3
+sum-mod : (s n : ℕ) → total (λ j. powerAt j n * 3 ^ j) s ≡ n % 3 ^ s
+unfolding total powerAt
+sum-mod zero n = omega arith
+sum-mod (suc s) n =
+    omega (
+      arith,
+      sum-mod s n,
+      mod-mul n {m = 3} {c = 3 ^ s} (omega arith) (one-le-pow s 3 (omega arith)),
+      ap (λ (x : ℕ). n % x) (pow-succ' 3 s),
+    )
 
 abbrev Earlier : ℕ → ℕ → ℕ → Type 0
 Earlier s p q = Lexicographic s _<_ (λ j. powerAt j p) (λ j. powerAt j q)
@@ -153,6 +167,7 @@ by-digits s σ τ l =
 pub numeric-order : (s : ℕ) → NumericOrder s
 numeric-order s =
     record {
+      sum-of-digits = λ n h. sum-mod s n ∙ mod-eq-of-lt h;
       of-products = λ α β a b. (earlier s α β a b, smaller s α β a b);
       of-patterns = λ σ τ a b. ((λ h. by-signs s σ τ (earlier s σ τ a b h)), (λ l. smaller s σ τ a b (by-digits s σ τ l)));
     }
