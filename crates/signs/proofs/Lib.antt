@@ -15,3 +15,4 @@ pub mod Weights
 pub mod UniqueWhole
 pub mod Orders
 pub mod SignDigits
+pub mod NumericOrder

@@ -1,5 +1,5 @@
--- Theorem: the square matrix of the signs of an adapted list's products on the list's patterns can be inverted (document 01, "Adapted
--- lists"). Whole numbers on a rising list of patterns are fixed by their queries on its adapted list.
+-- Theorem: whole numbers on a rising list of patterns are fixed by their queries on its adapted list. This is one half of document 01's
+-- "the square matrix of their signs can be inverted" ("Adapted lists"); the whole of it is `invertible` of the crate solutions.
 use mathlib.Core.Path.{_≡_, refl, sym, ap, _∙_}
 use mathlib.Core.List.{List, [], _∷_}
 use Prim.Native.Nat.{ℕ, zero, suc, _+_, _^_, _<_}

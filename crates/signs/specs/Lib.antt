@@ -3,3 +3,4 @@ pub mod Signs
 pub mod Adapted
 pub mod Bits
 pub mod Tally
+pub mod Order

@@ -4,3 +4,4 @@ pub mod SolverRight
 pub mod Bounds
 pub mod Edges
 pub mod Posing
+pub mod Inverse

@@ -1,3 +1,4 @@
 pub mod Solution
 pub mod Solver
 pub mod Posing
+pub mod Invertible
