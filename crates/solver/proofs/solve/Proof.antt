@@ -21,17 +21,21 @@ use Rattle.solver.proofs.solve.Lts as lts
 use Rattle.solutions.proofs.posed.Reads as posed-reads
 use Rattle.solver.proofs.solve_to.Reads as solve-to-reads
 
+-- the answer and the slice at exit, from an equation of the pair
+parts : {p q : Solved × List ℤ} → p ≡ q → (q .0 ≡ p .0) × (q .1 ≡ p .1)
+parts e = (sym (ap (λ p. p .0) e), sym (ap (λ p. p .1) e))
+
 returns : tie.Need-returns
 returns c =
     let a = c .before .before .args in
     let e = refused-none (a .s) (a .patterns .now) (a .numbers .now) (a .out .now) (c .if1 .taken) in
-    (sym (ap (λ p. p .0) e), sym (ap (λ p. p .1) e))
+    parts e
 
 returns-2 : tie.Need-returns-2
 returns-2 c =
     let a = c .before .before .before .args in
     let e = refused-many (a .s) (a .patterns .now) (a .numbers .now) (a .out .now) (c .if2 .taken) in
-    (sym (ap (λ p. p .0) e), sym (ap (λ p. p .1) e))
+    parts e
 
 posed-requires : tie.Need-posed-requires
 posed-requires c κs = search needs
@@ -41,7 +45,7 @@ returns-3 c =
     let a = c .before .before .before .before .before .args in
     let e = refused-list (a .s) (a .patterns .now) (a .numbers .now) (a .out .now) (c .before .before .before .if1 .left)
     (c .before .before .if2 .left) (sym (c .before .posed .ensures) ∙ not-true (c .before .posed .result) (c .if3 .taken)) in
-    (sym (ap (λ p. p .0) e), sym (ap (λ p. p .1) e))
+    parts e
 
 returns-4 : tie.Need-returns-4
 returns-4 c =
@@ -49,7 +53,7 @@ returns-4 c =
     let e = refused-short (a .s) (a .patterns .now) (a .numbers .now) (a .out .now) (c .before .before .before .before .if1 .left)
     (c .before .before .before .if2 .left)
     (sym (c .before .before .posed .ensures) ∙ not-false (c .before .before .posed .result) (c .before .if3 .left)) (c .if4 .taken) in
-    (sym (ap (λ p. p .0) e), sym (ap (λ p. p .1) e))
+    parts e
 
 array-borrow-prefix-x : tie.Need-array-borrow-prefix-x
 array-borrow-prefix-x c =
