@@ -1,6 +1,6 @@
 -- What a query on a card shows, by cause (demand 1, "A refused card shows no query", and demand 2, first sentence), and that every number
 -- that refuses, of an opened card too, whatever it holds, is one of document 01's table.
-use mathlib.Core.Path.{_≡_, refl, ap, subst, _∙_}
+use mathlib.Core.Path.{_≡_, refl, sym, ap, subst, _∙_}
 use mathlib.Core.Bool.{Bool, true, false, cond}
 use mathlib.Core.Logic.{_⊎_, inl, inr, ⊎-elim}
 use mathlib.Core.List.{List}
@@ -9,7 +9,9 @@ use native.Mathlib.Omega.{arith}
 use borrow.Author.Tests.{le-leb, lt-leb}
 use lib.Dec.{leb}
 use lib.IntN.{ℤ}
+use lib.ListN.{take}
 use Rattle.refusals.specs.Numbers.{wrongCount, wrongProduct, cardNumbers, isAmong, Among, _when_, _▸_, unless}
+use Rattle.refusals.specs.Limits.{longestCard}
 use Rattle.integers.proofs.Tests.{eq-cases}
 use Rattle.signs.specs.Signs.{query}
 use Rattle.contents.proofs.Patterns.{query-patterns}
@@ -19,6 +21,7 @@ use Rattle.layout.proofs.Twos.{below-or}
 use Rattle.card.specs.Card.{refusal}
 use Rattle.card.specs.Sound.{Sound}
 use Rattle.card.proofs.Sound.{sound, unrefused}
+use Rattle.card.proofs.Longest.{cut-refusal, cut-sound}
 use Rattle.query.specs.declared.Opened.{Opened}
 use Rattle.query.specs.declared.Queried.the-variants as of-query
 use Rattle.query.specs.Query.{queryOf, patternsOf, queryAnswer}
@@ -56,6 +59,14 @@ module _ (c : List ℕ) (α : ℕ) where
     where
       differ : (m : ℕ) → queryAnswer c α ≡ of-query.Refused m → ⊥
       differ m f = let n : _≡_ {A = ℕ} 0 1 = cc in omega arith
+
+-- any input cut after its first k bytes, k above 318, shows the same
+pub cut-query : (c : List ℕ) (k α : ℕ) → longestCard < k → queryAnswer (take k c) α ≡ queryAnswer c α
+cut-query c k α h =
+    ⊎-elim (λ w. ap (λ (d : List ℕ). queryAnswer d α) (cut-sound c k h (w .0)))
+    (λ w. query-refused (take k c) α (λ z. absurd (w .0 (sym (cut-refusal c k h) ∙ z))) ∙ ap of-query.Refused (cut-refusal c k h)
+    ∙ sym (query-refused c α (w .0)))
+    (eq-cases (refusal c) 0)
 
 -- ---- the numbers
 
