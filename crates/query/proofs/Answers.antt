@@ -15,10 +15,12 @@ use Rattle.refusals.specs.Limits.{longestCard}
 use Rattle.integers.proofs.Tests.{eq-cases}
 use Rattle.signs.specs.Signs.{query}
 use Rattle.contents.proofs.Patterns.{query-patterns}
-use Rattle.layout.specs.Format.{polynomials}
+use Rattle.layout.specs.Format.{polynomials, pointCount}
 use Rattle.layout.specs.Contents.{contentsOf}
 use Rattle.layout.proofs.Twos.{below-or}
 use Rattle.card.specs.Card.{refusal}
+use Rattle.card.specs.Answers.{reading}
+use Rattle.card.specs.declared.Card.the-variants as card
 use Rattle.card.specs.Sound.{Sound}
 use Rattle.card.proofs.Sound.{sound, unrefused}
 use Rattle.card.proofs.Longest.{cut-refusal, cut-sound}
@@ -49,6 +51,16 @@ module _ (c : List ℕ) (α : ℕ) where
       go : (m : ℕ) → refusal c ≡ m → queryAnswer c α ≡ of-query.Refused (refusal c)
       go zero e = absurd (h e)
       go (suc m) e = rw e refl
+
+  -- so where `card::read` refuses it
+  pub query-read : (m : ℕ) → reading c ≡ card.Refused m → of-query.Refused m ≡ queryAnswer c α
+  unfolding reading queryAnswer
+  query-read m = go (refusal c)
+    where
+      go : (k : ℕ) → unless k card.Refused (card.Sound (polynomials c) (pointCount c)) ≡ card.Refused m
+          → of-query.Refused m ≡ unless (k ▸ wrongProduct when leb (3 ^ polynomials c) α) of-query.Refused (of-query.Number (queryOf c α))
+      go zero e = let z : _≡_ {A = ℕ} 0 1 = cc in absurd (omega arith)
+      go (suc k) e = let z : m ≡ suc k = cc in ap of-query.Refused z
 
   -- and where a query is shown the card is sound and the product below 3^s
   pub query-shown : (z : ℤ) → queryAnswer c α ≡ of-query.Number z → Sound c × (α < 3 ^ polynomials c)
