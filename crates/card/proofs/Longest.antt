@@ -137,7 +137,7 @@ module _ (c d : List ℕ) (long-c : longestCard < length c) (long-d : longestCar
         rw (
           same-degree,
           any-same (λ i. outside mostCoefficient (coefficient c at i)) (λ i. outside mostCoefficient (coefficient d at i)) (degree d at + 1)
-          (λ i l. ap (outside mostCoefficient) (same-coefficient i (omega arith))),
+              (λ i l. ap (outside mostCoefficient) (same-coefficient i (omega arith))),
           same-coefficient (degree d at) h,
         )
         refl
