@@ -207,7 +207,7 @@ pub fn query(card: &[u8], a: Product) -> Queried
             if power(s) <= a.0 {
                 return Queried::Refused(WRONG_PRODUCT);
             }
-            ask(open_sound(card, s, n), a)
+            Queried::Number(sum(open_sound(card, s, n), a.0))
         }
         Card::Refused(m) => Queried::Refused(m),
     }
