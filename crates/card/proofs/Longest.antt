@@ -176,7 +176,8 @@ module _ (c d : List ℕ) (long-c : longestCard < length c) (long-d : longestCar
   same-refusal =
       next (headerRefusal c) (headerRefusal d) _ _ same-header λ e.
       let H = headed d e in
-      rw (same 1 (omega arith)) (same-bodies (H .n-most) (polynomials d) 0 (bodiesAt d) (omega (arith, H .s-most)) (omega (arith, H .s-most)))
+      rw (same 1 (omega arith))
+      (same-bodies (H .n-most) (polynomials d) 0 (bodiesAt d) (omega (arith, H .s-most)) (omega (arith, H .s-most)))
 
 -- ---- any input cut after its first k bytes, k above 318
 

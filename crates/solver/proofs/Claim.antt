@@ -49,8 +49,8 @@ data Case (s : ℕ) (L : List ℕ) (xs out : List ℤ) (r : Solved) (left : List
   list : CountFits s → (ListFits s L xs → ⊥) → r ≡ Refused 11 → left ≡ out → Case s L xs out r left
   room : CountFits s → ListFits s L xs → (RoomFits L out → ⊥) → r ≡ Refused 15 → left ≡ out → Case s L xs out r left
   unsolved : CountFits s → ListFits s L xs → RoomFits L out → (Solvable s L xs → ⊥) → r ≡ Refused 12 → left ≡ out → Case s L xs out r left
-  solved : CountFits s → ListFits s L xs → RoomFits L out → (ws : List ℤ) → Solution s L xs ws → r ≡ Found → left ≡ ws ++ drop (length L) out
-      → Case s L xs out r left
+  solved : CountFits s → ListFits s L xs → RoomFits L out → (ws : List ℤ) → Solution s L xs ws → r ≡ Found
+      → left ≡ ws ++ drop (length L) out → Case s L xs out r left
 
 module _ (s : ℕ) (L : List ℕ) (xs out : List ℤ) where
   abbrev Here : Type 0
@@ -61,7 +61,8 @@ module _ (s : ℕ) (L : List ℕ) (xs out : List ℤ) where
 
   by-solution : CountFits s → ListFits s L xs → RoomFits L out → (o : Option (List ℤ)) → solverOf s L xs ≡ o
       → solveOf s L xs out ≡ answered out o → Here
-  by-solution c f h none e w = unsolved c f h (λ p. solver-right .refused s L xs (posed f) .0 e (p .0) (p .1)) (ap (λ p. p .0) w) (ap (λ p. p .1) w)
+  by-solution c f h none e w =
+      unsolved c f h (λ p. solver-right .refused s L xs (posed f) .0 e (p .0) (p .1)) (ap (λ p. p .0) w) (ap (λ p. p .1) w)
   by-solution c f h (some ws) e w =
       let S = solver-right .found s L xs ws (posed f) .0 e in
       solved c f h ws S (ap (λ p. p .0) w) (ap (λ p. p .1) w ∙ ap (λ (n : ℕ). ws ++ drop n out) (S .one-each))

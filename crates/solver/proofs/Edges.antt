@@ -1,4 +1,4 @@
--- The solver's starred lines of document 01's edges, at the level of the call: what it answers and what it leaves in any slice that has room.
+-- The solver's starred lines of document 01's edges, at the level of the call: what it answers and leaves in any slice that has room.
 use mathlib.Core.Path.{_≡_, refl, _∙_, ap}
 use mathlib.Core.Bool.{true}
 use mathlib.Core.Option.{Option, some, none}

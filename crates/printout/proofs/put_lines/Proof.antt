@@ -29,7 +29,9 @@ loop-holds c =
     (omega arith, omega arith, st .pre, (unfold leftAfter in c .begin .ensures), (unfold textAfter in refl))
 
 same-length : tie.Need-same-length Inv-loop μ-loop
-same-length c = c .before .before .before .before .before .before .loop .inv .2 ∙ sym (c .before .before .before .before .before .before .before .before .before .before .pre)
+same-length c =
+    let l = c .before .before .before .before .before .before .loop in
+    l .inv .2 ∙ sym (c .before .before .before .before .before .before .before .before .before .before .pre)
 
 returns : tie.Need-returns Inv-loop μ-loop
 returns c =
@@ -54,7 +56,8 @@ add-k c = let l = c .before .before .before .before .before .before .before .bef
 loop-again : tie.Need-loop-again Inv-loop μ-loop
 loop-again c =
     let l = c .before .before .before .before .before .before .before .before .before .before .loop in
-    let t = begunOf (c .before .before .before .before .before .before .before .before .before .before .before .before .before .before .args .card .now) in
+    let a = c .before .before .before .before .before .before .before .before .before .before .before .before .before .before .args in
+    let t = begunOf (a .card .now) in
     let n = c .before .before .before .before .before .before .before .before .next-line in
     let p = c .before .before .put-line in (
       omega arith,

@@ -41,11 +41,12 @@ open-sound-requires c κs = let t = read-as (c .before .before .before) in (t .c
 sum-requires : tie.Need-sum-requires
 sum-requires c κs =
     let t = read-as (c .before .before .before .before) in
+    let a = c .before .before .before .before .before .before .before .before .before .args in
     let e = c .open-sound .ensures in
     let s = ap (λ (o : Opened). o .s) e in (
       omega (arith, s, t .card .s-most),
-      omega (arith, ap (λ (o : Opened). o .n) e, points-long (c .before .before .before .before .before .before .before .before .before .args .card .now), t .card .n-most),
-      subst (λ (n : ℕ). c .before .before .before .before .before .before .before .before .before .args .a .0 < 3 ^ n) (t .s-is ∙ sym s) (omega arith),
+      omega (arith, ap (λ (o : Opened). o .n) e, points-long (a .card .now), t .card .n-most),
+      subst (λ (n : ℕ). a .a .0 < 3 ^ n) (t .s-is ∙ sym s) (omega arith),
     )
 
 enum-known-m : tie.Need-enum-known-m
