@@ -1,5 +1,4 @@
--- The longest card has 318 bytes (document 01, "The card"), and the first 319 bytes of any input decide: bytes past them change neither its
--- refusal nor, as a card so long is refused, anything else.
+-- The longest card has 318 bytes, and the first 319 bytes of any input decide: `longest-card`.
 --
 --   longestSound == a sound card of 318 bytes: 8 polynomials of degree 6 with all coefficients 1, and 64 points 0
 use mathlib.Core.Path.{_≡_, refl, sym, ap, _∙_}
@@ -19,6 +18,7 @@ use Rattle.layout.proofs.Twos.{below-or}
 use Rattle.card.specs.Card.{anyBelow, outside, contentsRefusal, headerRefusal, polynomialRefusal, coefficientsRefusal, bodiesRefusal}
 use Rattle.card.specs.Card.{pointsRefusal, refusal}
 use Rattle.card.specs.Sound.{Sound}
+use Rattle.card.specs.Longest.{Longest}
 use Rattle.card.proofs.Header.{headed}
 use Rattle.card.proofs.Polynomial.{whole}
 use Rattle.card.proofs.Points.{not-full}
@@ -35,7 +35,7 @@ module _ (c : List ℕ) (S : Sound c) where
   offset-near (suc j) h =
       omega (arith, offset-near j (omega arith), S .follows j (omega arith), S .body j (omega arith) .small .whole .low)
 
-  pub longest : length c ≤ longestCard
+  longest : length c ≤ longestCard
   longest = omega (arith, S .ends, offset-near (polynomials c) (omega arith), S .s-most, S .n-most)
 
 -- ---- and one has so many bytes
@@ -57,7 +57,7 @@ unrefused-longest : refusal longestSound ≡ 0
 unfolding refusal headerRefusal contentsRefusal bodiesRefusal polynomialRefusal coefficientsRefusal pointsRefusal anyBelow offset two's word
 unrefused-longest = refl
 
-pub longest-reached : Sound longestSound × (length longestSound ≡ longestCard)
+longest-reached : Sound longestSound × (length longestSound ≡ longestCard)
 longest-reached = (sound longestSound unrefused-longest, refl)
 
 -- ---- two inputs longer than that with the same bytes up to there
@@ -191,3 +191,13 @@ module _ (c : List ℕ) (k : ℕ) (past : longestCard < k) where
 
   pub cut-sound : refusal c ≡ 0 → take k c ≡ c
   cut-sound e = take-all k c (omega (arith, longest c (sound c e)))
+
+-- THE LENGTH OF A CARD
+pub longest-card : Longest 318
+longest-card =
+    record {
+      never-longer = longest;
+      reached = (longestSound, longest-reached .0, longest-reached .1);
+      same-refusal = cut-refusal;
+      same-card = cut-sound;
+    }
