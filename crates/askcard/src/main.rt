@@ -6,10 +6,12 @@ use libc::STDOUT_FILENO;
 use lines::Line;
 use refusals::LONGEST_CARD;
 
-// More bytes than the longest card has, so that one that is too long is refused as such.
+// More bytes than the longest card has: the printout of an input is that of its first 319 bytes or more (`cut-printout` in
+// printout/proofs/EachLine.antt), so that nothing further need be read.
 const MOST_READ: usize = LONGEST_CARD + 2;
 
-// Writes a line, and says whether there may be another: not after the empty line, nor where the write failed.
+// Writes a line, and says whether there may be another: not after the empty line, which comes only once the printout is over (`none-empty` in the same
+// file), nor where the write failed.
 fn write_line(line: Line) -> bool {
     let n = line.length;
     let bytes = line.bytes;

@@ -140,6 +140,45 @@ unfolding reading refusal headerRefusal contentsRefusal bodiesRefusal polynomial
     two's word
 cut-first = refl
 
+-- contents cut short, within an offset and before the last
+cut-contents : reading (take 5 example) ≡ Card.Refused 1
+unfolding reading refusal headerRefusal contentsRefusal bodiesRefusal polynomialRefusal coefficientsRefusal pointsRefusal anyBelow offset
+    two's word
+cut-contents = refl
+
+cut-last-offset : reading (take 11 example) ≡ Card.Refused 1
+unfolding reading refusal headerRefusal contentsRefusal bodiesRefusal polynomialRefusal coefficientsRefusal pointsRefusal anyBelow offset
+    two's word
+cut-last-offset = refl
+
+-- a missing degree byte, of the first polynomial and of the second
+no-degree : reading (take 12 example) ≡ Card.Refused 1
+unfolding reading refusal headerRefusal contentsRefusal bodiesRefusal polynomialRefusal coefficientsRefusal pointsRefusal anyBelow offset
+    two's word
+no-degree = refl
+
+no-second-degree : reading (take 21 example) ≡ Card.Refused 1
+unfolding reading refusal headerRefusal contentsRefusal bodiesRefusal polynomialRefusal coefficientsRefusal pointsRefusal anyBelow offset
+    two's word
+no-second-degree = refl
+
+-- a degree is tested before the body is seen to be cut short
+degree-first : reading (take 13 (set example 12 7)) ≡ Card.Refused 5
+unfolding reading refusal headerRefusal contentsRefusal bodiesRefusal polynomialRefusal coefficientsRefusal pointsRefusal anyBelow offset
+    two's word
+degree-first = refl
+
+-- a wrong first offset hides a bad degree, but a bad degree hides the offset after it
+offset-first : reading (set (set example 5 13) 12 7) ≡ Card.Refused 4
+unfolding reading refusal headerRefusal contentsRefusal bodiesRefusal polynomialRefusal coefficientsRefusal pointsRefusal anyBelow offset
+    two's word
+offset-first = refl
+
+degree-before-offset : reading (set (set example 12 7) 7 0) ≡ Card.Refused 5
+unfolding reading refusal headerRefusal contentsRefusal bodiesRefusal polynomialRefusal coefficientsRefusal pointsRefusal anyBelow offset
+    two's word
+degree-before-offset = refl
+
 -- a coefficient hides the offset after it
 coefficient-first : reading (set (set example 13 1) 7 0) ≡ Card.Refused 5
 unfolding reading refusal headerRefusal contentsRefusal bodiesRefusal polynomialRefusal coefficientsRefusal pointsRefusal anyBelow offset

@@ -5,6 +5,7 @@ pub mod Polynomial
 pub mod Points
 pub mod Bodies
 pub mod Sound
+pub mod Longest
 pub mod Positions
 pub mod Listed
 pub mod Edges

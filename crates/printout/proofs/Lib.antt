@@ -2,6 +2,7 @@ pub mod Showing
 pub mod Questions
 pub mod Edges
 pub mod Printing
+pub mod EachLine
 pub mod Texts
 pub mod Placing
 pub mod Calls

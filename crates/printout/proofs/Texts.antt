@@ -7,10 +7,11 @@ use mathlib.Core.List.{List, [], _∷_, _++_, append-assoc, append-nil}
 use Prim.Native.Nat.{ℕ, zero, suc, _≤_}
 use native.Mathlib.Omega.{arith}
 use lib.ListN.{length}
-use Rattle.printout.specs.Printout.{together, printoutOf, linesOf}
+use Rattle.printout.specs.Printout.{together, printoutOf, linesOf, NoneEmpty}
 use Rattle.printout.specs.Written.{mostLines}
 use Rattle.printout.specs.Progress.{over, ProgressState, begunOf, nextAt, nextOf, Prints}
 use Rattle.printout.proofs.Printing.{prints, few-lines}
+use Rattle.printout.proofs.EachLine.{none-empty}
 
 unfoldable pub leftAfter : ℕ → ProgressState → ProgressState
 leftAfter zero t = t
@@ -59,7 +60,23 @@ text-prints [] k t p h = text-over k t p
 text-prints (l ∷ ls) zero t p h = absurd (omega arith)
 text-prints (l ∷ ls) (suc k) t p h = text-first k t ∙ ap₂ _++_ (p .0) (text-prints ls k (nextOf t .0) (p .1) (omega arith))
 
--- the text of mostLines lines is the printout
+-- an empty line comes only after the last
+ended : (ls : List (List ℕ)) (k : ℕ) (t : ProgressState) → Prints t ls → NoneEmpty ls → nextOf (leftAfter k t) .1 ≡ [] → length ls ≤ k
+unfolding Prints NoneEmpty leftAfter
+ended [] k t p f e = omega arith
+ended (l ∷ ls) zero t p f e = absurd (omega (arith, f .0, ap length (sym (p .0) ∙ e)))
+ended (l ∷ ls) (suc k) t p f e =
+    omega (arith, ended ls k (nextOf t .0) (p .1) (f .1) (ap (λ (u : ProgressState). nextOf u .1) (sym (left-first k t)) ∙ e))
+
+-- so the text of the lines before an empty one is the printout
+pub printed-ended : (c : List ℕ) (k : ℕ) (u : ProgressState) → u ≡ leftAfter k (begunOf c) → nextOf u .1 ≡ []
+    → textAfter k (begunOf c) ≡ printoutOf c
+unfolding printoutOf
+printed-ended c k u e f =
+    text-prints (linesOf c) k (begunOf c) (prints c)
+    (ended (linesOf c) k (begunOf c) (prints c) (none-empty c) (ap (λ (x : ProgressState). nextOf x .1) (sym e) ∙ f))
+
+-- and so is the text of mostLines lines
 pub printed-all : (c : List ℕ) → textAfter mostLines (begunOf c) ≡ printoutOf c
 unfolding printoutOf
 printed-all c = text-prints (linesOf c) mostLines (begunOf c) (prints c) (few-lines c)

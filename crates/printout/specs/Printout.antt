@@ -7,10 +7,11 @@
 --   questionLines c ps, rowLines R == a Q line for each product with its query on the card c, and an S line for each row
 --   soundLines c                   == "a Q line for each question as it is asked, then an S line for each row in order, then the E line"
 --   linesOf c                      == the lines of the card c: "A refused card prints `R` and its number, as `R 5`, and no other line"
+--   NoneEmpty ls                   == each line of ls has at least one byte
 --   together ls                    == the text of lines one after the other
 --   printoutOf c                   == the printout
 use mathlib.Core.List.{List, [], _∷_, _++_, map}
-use Prim.Native.Nat.{ℕ, zero, suc}
+use Prim.Native.Nat.{ℕ, zero, suc, _<_}
 use lib.ListN.{length}
 use Rattle.layout.specs.Format.{polynomials}
 use Rattle.card.specs.Card.{refusal}
@@ -45,6 +46,10 @@ soundLines c =
 
 unfoldable pub linesOf : List ℕ → List (List ℕ)
 linesOf c = unless (refusal c) (λ k. refusalLine k ∷ []) (soundLines c)
+
+unfoldable pub NoneEmpty : List (List ℕ) → Type 0
+NoneEmpty [] = Unit {0}
+NoneEmpty (l ∷ ls) = (0 < length l) × NoneEmpty ls
 
 -- ---- the text
 

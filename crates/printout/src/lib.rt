@@ -172,7 +172,8 @@ fn put_line(line: Line, out: &mut [u8], at: usize) -> usize
     at + n
 }
 
-// Writes the printout of a card to the front of out, which has room for any, and returns how many bytes it has.
+// Writes the printout of a card to the front of out, which has room for any, and returns how many bytes it has. It stops at the empty line, which comes
+// only after the last.
 fn put_lines(card: &[u8], out: &mut [u8]) -> usize
     requires { ⌜ length (now out) ≡ mostText ⌝ }
     ensures { λ r. ⌜ (take r (now (out .exit)) ≡ printoutOf (now (card .entry))) × (r ≡ length (printoutOf (now (card .entry)))) × (r ≤ mostText) ⌝ }
@@ -184,6 +185,9 @@ fn put_lines(card: &[u8], out: &mut [u8]) -> usize
         let next = next_line(progress);
         let after = next.progress;
         let line = next.line;
+        if line.length == 0 {
+            return at;
+        }
         at = put_line(line, out, at);
         progress = after;
         k += 1;

@@ -1,6 +1,6 @@
 -- What a query on a card shows, by cause (demand 1, "A refused card shows no query", and demand 2, first sentence), and that every number
 -- that refuses, of an opened card too, whatever it holds, is one of document 01's table.
-use mathlib.Core.Path.{_≡_, refl, ap, subst, _∙_}
+use mathlib.Core.Path.{_≡_, refl, sym, ap, subst, _∙_}
 use mathlib.Core.Bool.{Bool, true, false, cond}
 use mathlib.Core.Logic.{_⊎_, inl, inr, ⊎-elim}
 use mathlib.Core.List.{List}
@@ -9,16 +9,21 @@ use native.Mathlib.Omega.{arith}
 use borrow.Author.Tests.{le-leb, lt-leb}
 use lib.Dec.{leb}
 use lib.IntN.{ℤ}
+use lib.ListN.{take}
 use Rattle.refusals.specs.Numbers.{wrongCount, wrongProduct, cardNumbers, isAmong, Among, _when_, _▸_, unless}
+use Rattle.refusals.specs.Limits.{longestCard}
 use Rattle.integers.proofs.Tests.{eq-cases}
 use Rattle.signs.specs.Signs.{query}
 use Rattle.contents.proofs.Patterns.{query-patterns}
-use Rattle.layout.specs.Format.{polynomials}
+use Rattle.layout.specs.Format.{polynomials, pointCount}
 use Rattle.layout.specs.Contents.{contentsOf}
 use Rattle.layout.proofs.Twos.{below-or}
 use Rattle.card.specs.Card.{refusal}
+use Rattle.card.specs.Answers.{reading}
+use Rattle.card.specs.declared.Card.the-variants as card
 use Rattle.card.specs.Sound.{Sound}
 use Rattle.card.proofs.Sound.{sound, unrefused}
+use Rattle.card.proofs.Longest.{cut-refusal, cut-sound}
 use Rattle.query.specs.declared.Opened.{Opened}
 use Rattle.query.specs.declared.Queried.the-variants as of-query
 use Rattle.query.specs.Query.{queryOf, patternsOf, queryAnswer}
@@ -47,6 +52,16 @@ module _ (c : List ℕ) (α : ℕ) where
       go zero e = absurd (h e)
       go (suc m) e = rw e refl
 
+  -- so where `card::read` refuses it
+  pub query-read : (m : ℕ) → reading c ≡ card.Refused m → of-query.Refused m ≡ queryAnswer c α
+  unfolding reading queryAnswer
+  query-read m = go (refusal c)
+    where
+      go : (k : ℕ) → unless k card.Refused (card.Sound (polynomials c) (pointCount c)) ≡ card.Refused m
+          → of-query.Refused m ≡ unless (k ▸ wrongProduct when leb (3 ^ polynomials c) α) of-query.Refused (of-query.Number (queryOf c α))
+      go zero e = let z : _≡_ {A = ℕ} 0 1 = cc in absurd (omega arith)
+      go (suc k) e = let z : m ≡ suc k = cc in ap of-query.Refused z
+
   -- and where a query is shown the card is sound and the product below 3^s
   pub query-shown : (z : ℤ) → queryAnswer c α ≡ of-query.Number z → Sound c × (α < 3 ^ polynomials c)
   query-shown z e =
@@ -56,6 +71,14 @@ module _ (c : List ℕ) (α : ℕ) where
     where
       differ : (m : ℕ) → queryAnswer c α ≡ of-query.Refused m → ⊥
       differ m f = let n : _≡_ {A = ℕ} 0 1 = cc in omega arith
+
+-- any input cut after its first k bytes, k above 318, shows the same
+pub cut-query : (c : List ℕ) (k α : ℕ) → longestCard < k → queryAnswer (take k c) α ≡ queryAnswer c α
+cut-query c k α h =
+    ⊎-elim (λ w. ap (λ (d : List ℕ). queryAnswer d α) (cut-sound c k h (w .0)))
+    (λ w. query-refused (take k c) α (λ z. absurd (w .0 (sym (cut-refusal c k h) ∙ z))) ∙ ap of-query.Refused (cut-refusal c k h)
+    ∙ sym (query-refused c α (w .0)))
+    (eq-cases (refusal c) 0)
 
 -- ---- the numbers
 

@@ -197,9 +197,18 @@ pub fn ask(card: Opened, a: Product) -> Queried
     Queried::Number(sum(card, a.0))
 }
 
-// The query of a product on a card, in one call: the number that refuses the card, then 13 for a product number above 3^s − 1, else the query.
+// The query of a product on a card, in one call: the number that refuses the card, then 13 for a product number above 3^s − 1, else the query. No
+// polynomial is evaluated before both are tested.
 pub fn query(card: &[u8], a: Product) -> Queried
     ensures { λ r. ⌜ r ≡ queryAnswer (now (card .entry)) (a .0) ⌝ }
 {
-    ask(open(card), a)
+    match card::read(card) {
+        Card::Sound { s, n } => {
+            if power(s) <= a.0 {
+                return Queried::Refused(WRONG_PRODUCT);
+            }
+            Queried::Number(sum(open_sound(card, s, n), a.0))
+        }
+        Card::Refused(m) => Queried::Refused(m),
+    }
 }

@@ -1,2 +1,4 @@
 pub mod Answers
 pub mod Refusals
+pub mod Claim
+pub mod Edges
