@@ -1,7 +1,7 @@
 -- DEMAND 3 of the code: the five calls are known by their contracts alone (`Learnt`: what a call promises of its arguments, its result and
 -- what it leaves in lent memory), so that a weaker promise of any of them breaks the theorem.
 use mathlib.Core.Path.{_≡_, ap, ap₂, _∙_}
-use mathlib.Core.List.{List, _∷_}
+use mathlib.Core.List.{List, _++_}
 use Prim.Native.Nat.{ℕ, _≤_}
 use borrow.Author.Tests.{le-leb}
 use lib.IntN.{ℤ}
@@ -15,7 +15,7 @@ use Rattle.determination.specs.declared.Fetched.{Fetched}
 use Rattle.determination.specs.declared.Copied as code
 use Rattle.runs.specs.Run.{State, Step, Fetch, Copy, ask, running, startOf, answerOf, fetchOf, copyOf}
 use Rattle.determination.specs.Record.{stateOf, stepOf, fetchedOf, copiedOf, startedOf}
-use Rattle.runs.specs.Demand.{Call, Event, phaseOf, taken, given, Claim}
+use Rattle.runs.specs.Demand.{Call, Event, phaseOf, taken, asks, given, Claim}
 use Rattle.runs.proofs.Chains.{Keeps, FromStart, demand3-chain}
 use Rattle.determination.proofs.start.Reads as start
 use Rattle.determination.proofs.answer.Reads as answer
@@ -84,8 +84,8 @@ kept = record { starts = keeps-starts; answers = keeps-answers; fetches = keeps-
 abbrev pub Calls : ℕ → List Call → List Event → Run → Type 0
 Calls s cs t d = FromStart Run stateOf Started Took Fetches Copies s cs t d
 
--- DEMAND 3: after every such list, with the question total that the run reports
-pub demand3-code : (s : ℕ) → 1 ≤ s → s ≤ mostPolynomials → (cs : List Call) (t : List Event) (d : Run) → Calls s cs t d
+-- DEMAND 3: after every such list, with the step that the start gave and the question total that the run reports
+pub demand3-code : (s : ℕ) → 1 ≤ s → s ≤ mostPolynomials → (cs : List Call) (t : List Event) (d : Run) (u : Calls s cs t d)
     → (total : ℕ) → asked.Learnt tt (d, tt) total (d, tt)
-    → Claim s (0 ∷ given running t) (taken running t) (phaseOf running t) total t
+    → Claim s (u .first) (asks (u .first) ++ given running t) (taken running t) (phaseOf running t) total t
 demand3-code s h m cs t d u total e = rw e (demand3-chain Run stateOf Started Took Fetches Copies kept s h m u)

@@ -3,14 +3,14 @@
 -- x that a start for s gives the record c and the step x, Answers c z c′ x that the answer z to the record c leaves c′ and gives x, and so
 -- on.
 use mathlib.Core.Path.{_≡_, refl, ap, ap₂, _∙_}
-use mathlib.Core.List.{List, [], _∷_}
+use mathlib.Core.List.{List, [], _∷_, _++_}
 use Prim.Native.Nat.{ℕ, _≤_}
 use lib.IntN.{ℤ}
 use Rattle.refusals.specs.Limits.{mostPolynomials}
 use Rattle.rounds.specs.RoundEnd.{roundRows}
 use Rattle.runs.specs.Run.{State, startOf, Step, ask, Fetch, Copy, running, answerOf, fetchOf, copyOf}
 use Rattle.runs.specs.Demand.{Call, answer, fetch, copy, Event, answered, fetched, copiedTo, stateAfter, events, phaseOf, taken}
-use Rattle.runs.specs.Demand.{given, Claim}
+use Rattle.runs.specs.Demand.{asks, given, Claim}
 use Rattle.runs.proofs.DemandThree.{demand3}
 use Rattle.runs.specs.Reached.{Reached}
 use Rattle.runs.proofs.Reached.{reached}
@@ -69,9 +69,13 @@ module _ (C : Type 0) (view : C → State) (Starts : ℕ → C → Step → Type
       (e ∙ ap (λ (r : State). events roundRows r cs) v, f ∙ ap (λ (r : State). stateAfter roundRows r cs) v)
 
   -- DEMAND 3 of the code, for every chain of calls after a start
-  pub demand3-chain : Keeps → (s : ℕ) → 1 ≤ s → s ≤ mostPolynomials → {cs : List Call} {t : List Event} {d : C} → FromStart s cs t d
-      → Claim s (0 ∷ given running t) (taken running t) (phaseOf running t) (view d .total) t
-  demand3-chain k s h m {cs} {t} {d} u = let (e, f) = run-plays k s h m u in rw (e, f) (demand3 s h m cs)
+  pub demand3-chain : Keeps → (s : ℕ) → 1 ≤ s → s ≤ mostPolynomials → {cs : List Call} {t : List Event} {d : C}
+      (u : FromStart s cs t d)
+      → Claim s (u .first) (asks (u .first) ++ given running t) (taken running t) (phaseOf running t) (view d .total) t
+  unfolding asks
+  demand3-chain k s h m {cs} {t} {d} u =
+      let (e, f) = run-plays k s h m u in
+      rw (k .starts s (u .began) (u .first) h m (u .start) .1, e, f) (demand3 s h m cs)
 
   -- and what its records hold
   pub reached-chain : Keeps → (s : ℕ) → 1 ≤ s → s ≤ mostPolynomials → {cs : List Call} {t : List Event} {d : C} → FromStart s cs t d

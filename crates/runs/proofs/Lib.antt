@@ -2,6 +2,7 @@ pub mod Held
 pub mod Ends
 pub mod Steps
 pub mod Phases
+pub mod Causes
 pub mod Invariant
 pub mod Story
 pub mod DemandThree
