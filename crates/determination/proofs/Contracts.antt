@@ -45,7 +45,7 @@ keeps-starts : (s : ℕ) (c : Run) (x : Step) → 1 ≤ s → s ≤ mostPolynomi
 unfolding startedOf
 keeps-starts s c x h m u =
     let e : _≡_ {A = State × Step} (stateOf (u .result .run), stepOf (u .result .step))
-    (startOf s, ask 0) = (rw (le-leb 1 s h, le-leb s mostPolynomials m) at (u .kept)) in
+    (startOf s, ask 0) = (rw (le-leb 1 s h, le-leb s mostPolynomials m) at (u .kept .by-rules)) in
     (ap stateOf (u .left) ∙ ap (λ (p : State × Step). p .0) e, u .gave ∙ ap (λ (p : State × Step). p .1) e)
 
 keeps-answers : (c : Run) (z : ℤ) (c′ : Run) (x : Step) → Took c z c′ x

@@ -14,7 +14,7 @@ ghost use Rattle.signs.specs.Lists.{Below, Rising};
 ghost use Rattle.rounds.specs.RoundEnd.{roundRows};
 ghost use Rattle.runs.specs.Run.{close as closeOf, roundStep, endRound, ended, firstAnswer as firstOf, laterAnswer as laterOf, fetchOf, copyOf};
 ghost use Rattle.run_parts.specs.Parts.{heldRows};
-ghost use Rattle.determination.specs.Record.{runningPhase, mostAsked, isSound, isRunning, runningState, withAnswer, isDone, lateOn, stateOf, stepOf, fetchedOf, copiedOf, AnswerGives, startedOf};
+ghost use Rattle.determination.specs.Record.{runningPhase, mostAsked, isSound, isRunning, runningState, withAnswer, isDone, lateOn, stateOf, stepOf, fetchedOf, copiedOf, IsClosed, ClosedWhere, AnswerGives, StartGives};
 use integers::magnitude;
 use refusals::BAD_FIRST;
 use refusals::BAD_LATER;
@@ -119,7 +119,7 @@ fn fresh(s: usize, phase: u8) -> Run
 // The start of a run for s polynomials: its record, and product 0 to ask. Where s is outside 1 .. 8 the step is 3, and the record is a closed one
 // with no question asked.
 pub fn start(s: usize) -> Answered
-    ensures { λ r. ⌜ (stateOf (r .run), stepOf (r .step)) ≡ startedOf s ⌝ }
+    ensures { λ r. ⌜ StartGives s (r .run) (stepOf (r .step)) ⌝ }
 {
     if s < 1 {
         return Answered {
@@ -164,15 +164,15 @@ fn running(run: Run) -> bool
     sound(run)
 }
 
-// The record closed by a refusal: one more question, and no rows.
+// The record closed by a refusal: one more question, no rows and no answers.
 fn close(mut run: Run, k: u16) -> Answered
     requires { ⌜ run .asked < mostAsked ⌝ }
-    ensures { λ r. ⌜ (stateOf (r .run), stepOf (r .step)) ≡ closeOf roundRows (runningState run) k ⌝ }
+    ensures { λ r. ⌜ ((stateOf (r .run), stepOf (r .step)) ≡ closeOf roundRows (runningState run) k) × IsClosed (r .run) ⌝ }
 {
     run.asked = run.asked + 1;
     run.phase = CLOSED;
     run.rows = 0;
-    run.answered = 0;
+    run.answered = 0; // none of the round that is left
     Answered {
         run: run,
         step: Step::Refused(k),
@@ -229,7 +229,7 @@ fn begin(mut run: Run, i: usize, n: u64, found: Rows) -> Answered
 // The first answer: the number of points.
 fn first_answer(run: Run, a: i64) -> Answered
     requires { ⌜ (isRunning run ≡ true) × (run .round ≡ 0) ⌝ }
-    ensures { λ r. ⌜ (stateOf (r .run), stepOf (r .step)) ≡ firstOf roundRows (runningState run) a ⌝ }
+    ensures { λ r. ⌜ ((stateOf (r .run), stepOf (r .step)) ≡ firstOf roundRows (runningState run) a) × ClosedWhere (r .run) (stepOf (r .step)) ⌝ }
 {
     if a < 0 {
         return close(run, BAD_FIRST);
@@ -267,7 +267,7 @@ fn ask_next(mut run: Run, a: i64) -> Answered
 fn next_round(run: Run, found: Rows) -> Answered
     requires { ⌜ (isRunning run ≡ true) × (0 < run .round) × (0 < found .number) × (found .number ≤ mostPoints) ⌝ }
     requires { ⌜ Rising (take (found .number) (found .patterns)) × Below (3 ^ run .round) (take (found .number) (found .patterns)) ⌝ }
-    ensures { λ r. ⌜ (stateOf (r .run), stepOf (r .step)) ≡ endRound roundRows (runningState run) (run .round - 1) (some (heldRows found)) ⌝ }
+    ensures { λ r. ⌜ ((stateOf (r .run), stepOf (r .step)) ≡ endRound roundRows (runningState run) (run .round - 1) (some (heldRows found))) × ClosedWhere (r .run) (stepOf (r .step)) ⌝ }
 {
     let round = run.round;
     if round == run.polynomials {
@@ -279,7 +279,7 @@ fn next_round(run: Run, found: Rows) -> Answered
 // The last answer of a round.
 fn end_round(run: Run, a: i64) -> Answered
     requires { ⌜ (isRunning run ≡ true) × (0 < run .round) × (run .answered + 1 ≡ 2 * run .rows) ⌝ }
-    ensures { λ r. ⌜ (stateOf (r .run), stepOf (r .step)) ≡ roundStep roundRows (runningState run) (run .round - 1) (withAnswer run a) false ⌝ }
+    ensures { λ r. ⌜ ((stateOf (r .run), stepOf (r .step)) ≡ roundStep roundRows (runningState run) (run .round - 1) (withAnswer run a) false) × ClosedWhere (r .run) (stepOf (r .step)) ⌝ }
 {
     let after = find_rows(
         run.round - 1,
@@ -311,7 +311,7 @@ fn end_round(run: Run, a: i64) -> Answered
 // An answer after the first.
 fn later_answer(run: Run, a: i64) -> Answered
     requires { ⌜ (isRunning run ≡ true) × (0 < run .round) ⌝ }
-    ensures { λ r. ⌜ (stateOf (r .run), stepOf (r .step)) ≡ laterOf roundRows (runningState run) (run .round - 1) a ⌝ }
+    ensures { λ r. ⌜ ((stateOf (r .run), stepOf (r .step)) ≡ laterOf roundRows (runningState run) (run .round - 1) a) × ClosedWhere (r .run) (stepOf (r .step)) ⌝ }
 {
     let n = run.n;
     let k = run.answered;
