@@ -14,7 +14,7 @@ use Rattle.determination.specs.declared.Answered.{Answered}
 use Rattle.determination.specs.declared.Fetched.{Fetched}
 use Rattle.determination.specs.declared.Copied as code
 use Rattle.runs.specs.Run.{State, Step, Fetch, Copy, ask, running, startOf, answerOf, fetchOf, copyOf}
-use Rattle.determination.specs.Record.{stateOf, stepOf, fetchedOf, copiedOf, startedOf}
+use Rattle.determination.specs.Record.{stateOf, stepOf, fetchedOf, copiedOf, startedOf, StartGives}
 use Rattle.runs.specs.Demand.{Call, Event, phaseOf, taken, asks, given, Claim}
 use Rattle.runs.proofs.Chains.{Keeps, FromStart, demand3-chain}
 use Rattle.determination.proofs.start.Reads as start
@@ -44,8 +44,9 @@ pub record Fetches (c : Run) (p : ℕ) (x : Fetch) : Type 0 where
 keeps-starts : (s : ℕ) (c : Run) (x : Step) → 1 ≤ s → s ≤ mostPolynomials → Started s c x → (stateOf c ≡ startOf s) × (x ≡ ask 0)
 unfolding startedOf
 keeps-starts s c x h m u =
+    let k : StartGives s (u .result .run) (stepOf (u .result .step)) = u .kept in
     let e : _≡_ {A = State × Step} (stateOf (u .result .run), stepOf (u .result .step))
-    (startOf s, ask 0) = (rw (le-leb 1 s h, le-leb s mostPolynomials m) at (u .kept .by-rules)) in
+    (startOf s, ask 0) = (rw (le-leb 1 s h, le-leb s mostPolynomials m) at (k .by-rules)) in
     (ap stateOf (u .left) ∙ ap (λ (p : State × Step). p .0) e, u .gave ∙ ap (λ (p : State × Step). p .1) e)
 
 keeps-answers : (c : Run) (z : ℤ) (c′ : Run) (x : Step) → Took c z c′ x

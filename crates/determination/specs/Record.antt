@@ -4,18 +4,19 @@
 --   runningPhase, donePhase,
 --   closedPhase                 == the phase of a record whose run goes on, of one whose run is done, and of one whose run is closed
 --   isSound run                 == the test of a running record: its numbers are within limits, and its products are of the polynomials
---                                  before its round
+--                                  before its round; nothing is asked of its patterns, counts and answers
 --   mostAsked                   == a number above the questions of any such record
 --   isRunning run               == the test of a record whose run goes on
---   isDone run                  == the test of a record that is done: at most 64 rows
+--   isDone run                  == the test of a record that is done: at most 64 rows; nothing is asked of what these are
 --   unlessClosed f l            == the list l, which a closed record does not hold
 --   whileRunning f l            == the list l, which a record holds only while the run goes on
 --   stateIn f run               == what the record stands for in the phase f: closed, it holds no rows, and only while the run goes on
 --                                  products and answers
 --   runningState run            == what the record stands for where its run goes on
---   runPhase run                == the phase that the record stands for. A record may hold anything: one that no start and no answer could
---                                  have left, so that it fails the test, stands for a closed run
---   stateOf run                 == what the record stands for, in that phase
+--   runPhase run                == the phase that the record stands for: of a run that goes on or is done where it passes that test, and of
+--                                  a closed run where it passes neither, whatever it holds
+--   stateOf run                 == what the record stands for, in that phase: its numbers, rows, products and answers as they stand, also
+--                                  where no start and no answer could have left them
 --   withAnswer r z, lateOn r    == the round's answers with one more, and what an answer after the end gives
 --   IsClosed run                == the record itself is a closed one: its phase is that of a closed run, and it has no rows and no answers
 --   ClosedWhere run step        == where the step is a refusal the record is a closed one

@@ -1,8 +1,12 @@
 // The run (document 01, "The run"): its record by value, the start, an answer, a row fetch and a copy of all rows. The rules are in the
 // crate `runs`, and what a record stands for in them in specs/Record.
 //
-// No public call has a condition: a record may hold anything. One that no start and no answer could have left is taken for a closed one: every
-// call on it gives 7 and leaves it as it was.
+// No public call has a condition: a record may hold anything, also what no start and no answer could have left. What is tested, and no more:
+// - An answer is taken where the phase is RUNNING, the numbers are in their limits (`in_limits`) and the products kept are below 3^(round − 1). It
+//   is worked out from the patterns, counts and answers as they stand; at a round's end, rows that no round leaves give 10. Else 7.
+// - Rows are served where the phase is DONE and there are at most 64: the patterns and counts as they stand, whatever they are. Else 7.
+// - `asked` gives the number as it stands.
+// A call that gives 7 leaves the record as it was.
 ghost use mathlib.Core.Path.{_≡_};
 ghost use mathlib.Core.Bool.{true, false};
 ghost use mathlib.Core.Option.{some};
@@ -139,7 +143,7 @@ pub fn start(s: usize) -> Answered
     }
 }
 
-// Whether a running record is such as the calls leave.
+// Whether the numbers of a running record are in their limits, and its products below 3^(round − 1). Its rows and answers are not looked at.
 fn sound(run: Run) -> bool
     ensures { λ r. ⌜ r ≡ isSound run ⌝ }
 {
@@ -371,7 +375,7 @@ pub fn answer_through(run: Run, a: i64) -> Answered
     }
 }
 
-// Whether the run is done, and its rows can be had.
+// Whether the run is done, and its rows can be had: at most 64. The rows themselves are not looked at.
 fn done(run: Run) -> bool
     ensures { λ r. ⌜ r ≡ isDone run ⌝ }
 {
