@@ -15,10 +15,10 @@ use Rattle.runs.proofs.DemandThree.{demand3}
 use Rattle.runs.specs.Reached.{Reached}
 use Rattle.runs.proofs.Reached.{reached}
 
-module _ (C : Type 0) (view : C → State) (Starts : ℕ → C → Step → Type 0) (Answers : C → ℤ → C → Step → Type 0)
-    (Fetches : C → ℕ → Fetch → Type 0) (Copies : C → List ℕ → List ℕ → Copy → Type 0) where
+module _ {ℓ} (C : Type 0) (view : C → State) (Starts : ℕ → C → Step → Type ℓ) (Answers : C → ℤ → C → Step → Type ℓ)
+    (Fetches : C → ℕ → Fetch → Type ℓ) (Copies : C → List ℕ → List ℕ → Copy → Type ℓ) where
   -- the calls cs from the record c give the events t and leave the record d: each call gets the record as the one before left it
-  pub data Chain : C → List Call → List Event → C → Type 0 where
+  pub data Chain : C → List Call → List Event → C → Type ℓ where
     stop : {c : C} → Chain c [] [] c
     by-answer : {c c′ d : C} {z : ℤ} {x : Step} {cs : List Call} {t : List Event}
         → Answers c z c′ x → Chain c′ cs t d → Chain c (answer z ∷ cs) (answered z x ∷ t) d
@@ -28,14 +28,14 @@ module _ (C : Type 0) (view : C → State) (Starts : ℕ → C → Step → Type
         → Copies c a b x → Chain c cs t d → Chain c (copy a b ∷ cs) (copiedTo a b x ∷ t) d
 
   -- the same after a start for s: "the start" of demand 3's list of calls
-  pub record FromStart (s : ℕ) (cs : List Call) (t : List Event) (d : C) : Type 0 where
+  pub record FromStart (s : ℕ) (cs : List Call) (t : List Event) (d : C) : Type ℓ where
     pub began : C
     pub first : Step
     pub start : Starts s began first
     pub calls : Chain began cs t d
 
   -- the contracts are equations with the rules
-  pub record Keeps : Type 0 where
+  pub record Keeps : Type ℓ where
     pub starts : (s : ℕ) (c : C) (x : Step) → 1 ≤ s → s ≤ mostPolynomials → Starts s c x → (view c ≡ startOf s) × (x ≡ ask 0)
     pub answers : (c : C) (z : ℤ) (c′ : C) (x : Step) → Answers c z c′ x
         → (view c′ ≡ answerOf roundRows (view c) z .0) × (x ≡ answerOf roundRows (view c) z .1)

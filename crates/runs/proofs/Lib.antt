@@ -7,6 +7,7 @@ pub mod Invariant
 pub mod Story
 pub mod DemandThree
 pub mod Reached
+pub mod Sets
 pub mod Chains
 pub mod Truthful
 pub mod Refusals
