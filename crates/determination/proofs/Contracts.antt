@@ -1,7 +1,9 @@
--- DEMAND 3 of the code: the five calls are known by their contracts alone (`Learnt`: what a call promises of its arguments, its result and
--- what it leaves in lent memory), so that a weaker promise of any of them breaks the theorem.
+-- DEMAND 3 of the code: the calls are known by their contracts alone, so that a weaker promise of any of them breaks the theorem. `Learnt` is
+-- what a call promises of its arguments, its result and what it leaves in lent memory. Of the answer on a lent record it is the assertion of
+-- its contract, which held where the call ended (`Held`).
 use mathlib.Core.Path.{_≡_, ap, ap₂, _∙_}
-use mathlib.Core.List.{List, _∷_}
+use mathlib.Core.HLevel.{×-prop}
+use mathlib.Core.List.{List, _++_}
 use Prim.Native.Nat.{ℕ, _≤_}
 use borrow.Author.Tests.{le-leb}
 use lib.IntN.{ℤ}
@@ -13,30 +15,63 @@ use Rattle.determination.specs.declared.Run.{Run}
 use Rattle.determination.specs.declared.Answered.{Answered}
 use Rattle.determination.specs.declared.Fetched.{Fetched}
 use Rattle.determination.specs.declared.Copied as code
+use Rattle.determination.specs.declared.Step as code-step
 use Rattle.runs.specs.Run.{State, Step, Fetch, Copy, ask, running, startOf, answerOf, fetchOf, copyOf}
-use Rattle.determination.specs.Record.{stateOf, stepOf, fetchedOf, copiedOf, startedOf}
-use Rattle.runs.specs.Demand.{Call, Event, phaseOf, taken, given, Claim}
+use Rattle.determination.specs.Record.{stateOf, stepOf, fetchedOf, copiedOf, startedOf, StartGives, AnswerGives}
+use Rattle.runs.specs.Demand.{Call, Event, phaseOf, taken, asks, given, Claim}
 use Rattle.runs.proofs.Chains.{Keeps, FromStart, demand3-chain}
+use Rattle.runs.proofs.Sets.{step-set, state-set}
 use Rattle.determination.proofs.start.Reads as start
 use Rattle.determination.proofs.answer.Reads as answer
+use Rattle.determination.proofs.answer_through.Reads as through
+use Rattle.determination.proofs.answer_lent as lent
+use Rattle.determination.proofs.Worlds.{World, Held, fact-held}
 use Rattle.determination.proofs.fetch_row.Reads as fetch
 use Rattle.determination.proofs.copy_rows.Reads as copy
 use Rattle.determination.proofs.asked.Reads as asked
 
 -- a call of each kind, by its contract: what it got, what it gave, what it left
-pub record Started (s : ℕ) (c : Run) (x : Step) : Type 0 where
+pub record Started (s : ℕ) (c : Run) (x : Step) : Type 2 where
   pub result : Answered
   pub kept : start.Learnt tt (s, tt) result (s, tt)
   pub left : c ≡ result .run
   pub gave : x ≡ stepOf (result .step)
 
-pub record Took (c : Run) (z : ℤ) (c′ : Run) (x : Step) : Type 0 where
+-- an answer by value
+pub record ByValue (c : Run) (z : ℤ) (c′ : Run) (x : Step) : Type 2 where
   pub result : Answered
   pub kept : answer.Learnt tt (c, (z, tt)) result (c, (z, tt))
   pub left : c′ ≡ result .run
   pub gave : x ≡ stepOf (result .step)
 
-pub record Fetches (c : Run) (p : ℕ) (x : Fetch) : Type 0 where
+-- by value, through the lent entry
+pub record Through (c : Run) (z : ℤ) (c′ : Run) (x : Step) : Type 2 where
+  pub result : Answered
+  pub kept : through.Learnt tt (c, (z, tt)) result (c, (z, tt))
+  pub left : c′ ≡ result .run
+  pub gave : x ≡ stepOf (result .step)
+
+-- on the lent record, as it was and as it is left
+pub record OnLent (c : Run) (z : ℤ) (c′ : Run) (x : Step) : Type 2 where
+  pub world : World
+  pub lifetimes : Lfts 1
+  pub before : RefT Run
+  pub after : RefT Run
+  pub result : code-step.Step
+  pub kept : Held world
+      (lent.clauses (world .resources) (world .heap) (world .atoms) (world .memory) (world .routines) lifetimes (before, (z, tt)) .ensures
+      tt result (after, (z, tt)))
+  pub was : now before ≡ c
+  pub left : now after ≡ c′
+  pub gave : x ≡ stepOf result
+
+-- an answer through any of the entries
+pub data Took (c : Run) (z : ℤ) (c′ : Run) (x : Step) : Type 2 where
+  by-value : ByValue c z c′ x → Took c z c′ x
+  through-lent : Through c z c′ x → Took c z c′ x
+  on-lent : OnLent c z c′ x → Took c z c′ x
+
+pub record Fetches (c : Run) (p : ℕ) (x : Fetch) : Type 2 where
   pub result : Fetched
   pub kept : fetch.Learnt tt (c, (p, tt)) result (c, (p, tt))
   pub gave : x ≡ fetchedOf result
@@ -44,23 +79,34 @@ pub record Fetches (c : Run) (p : ℕ) (x : Fetch) : Type 0 where
 keeps-starts : (s : ℕ) (c : Run) (x : Step) → 1 ≤ s → s ≤ mostPolynomials → Started s c x → (stateOf c ≡ startOf s) × (x ≡ ask 0)
 unfolding startedOf
 keeps-starts s c x h m u =
+    let k : StartGives s (u .result .run) (stepOf (u .result .step)) = u .kept in
     let e : _≡_ {A = State × Step} (stateOf (u .result .run), stepOf (u .result .step))
-    (startOf s, ask 0) = (rw (le-leb 1 s h, le-leb s mostPolynomials m) at (u .kept)) in
+    (startOf s, ask 0) = (rw (le-leb 1 s h, le-leb s mostPolynomials m) at (k .by-rules)) in
     (ap stateOf (u .left) ∙ ap (λ (p : State × Step). p .0) e, u .gave ∙ ap (λ (p : State × Step). p .1) e)
 
-keeps-answers : (c : Run) (z : ℤ) (c′ : Run) (x : Step) → Took c z c′ x
-    → (stateOf c′ ≡ answerOf roundRows (stateOf c) z .0) × (x ≡ answerOf roundRows (stateOf c) z .1)
-keeps-answers c z c′ x u = (
-  ap stateOf (u .left) ∙ ap (λ (p : State × Step). p .0) (u .kept .by-rules),
-  u .gave
-      ∙ ap (λ (p : State × Step). p .1) (u .kept .by-rules),
-)
+-- the record after an answer and the step, by the rules
+abbrev ByRules : Run → ℤ → Run → Step → Type 0
+ByRules c z c′ x = (stateOf c′ ≡ answerOf roundRows (stateOf c) z .0) × (x ≡ answerOf roundRows (stateOf c) z .1)
+
+by-rules : (c : Run) (z : ℤ) (c′ : Run) (x : Step) → AnswerGives c z c′ x → ByRules c z c′ x
+by-rules c z c′ x g = (ap (λ (p : State × Step). p .0) (g .by-rules), ap (λ (p : State × Step). p .1) (g .by-rules))
+
+by-rules-prop : (c : Run) (z : ℤ) (c′ : Run) (x : Step) → IsProp (ByRules c z c′ x)
+by-rules-prop c z c′ x = ×-prop (state-set _ _) (step-set _ _)
+
+keeps-answers : (c : Run) (z : ℤ) (c′ : Run) (x : Step) → Took c z c′ x → ByRules c z c′ x
+keeps-answers c z c′ x (by-value u) = rw (u .left, u .gave) (by-rules c z (u .result .run) (stepOf (u .result .step)) (u .kept))
+keeps-answers c z c′ x (through-lent u) = rw (u .left, u .gave) (by-rules c z (u .result .run) (stepOf (u .result .step)) (u .kept))
+keeps-answers c z c′ x (on-lent u) =
+    rw (← u .was, ← u .left, u .gave)
+    (fact-held (u .world) (AnswerGives (now (u .before)) z (now (u .after)) (stepOf (u .result)))
+    (ByRules (now (u .before)) z (now (u .after)) (stepOf (u .result))) (by-rules-prop _ _ _ _) (by-rules _ _ _ _) (u .kept))
 
 keeps-fetches : (c : Run) (p : ℕ) (x : Fetch) → Fetches c p x → x ≡ fetchOf (stateOf c) p
 keeps-fetches c p x u = u .gave ∙ u .kept
 
 -- the two slices lent, as they were and as they are left
-pub record Copies (c : Run) (a b : List ℕ) (x : Copy) : Type 0 where
+pub record Copies (c : Run) (a b : List ℕ) (x : Copy) : Type 2 where
   pub lifetimes : Lfts 2
   pub patterns : RefT (List ℕ)
   pub counts : RefT (List ℕ)
@@ -79,13 +125,13 @@ keeps-copies c a b x u = u .gave ∙ u .kept ∙ ap₂ (λ (p q : List ℕ). cop
 kept : Keeps Run stateOf Started Took Fetches Copies
 kept = record { starts = keeps-starts; answers = keeps-answers; fetches = keeps-fetches; copies = keeps-copies }
 
--- a list of answers, row fetches and row copies after a start with s from 1 to 8, in which each call gets the record as the one before left
--- it
-abbrev pub Calls : ℕ → List Call → List Event → Run → Type 0
+-- a list of answers, each through any of the entries, row fetches and row copies after a start with s from 1 to 8, in which each call gets the
+-- record as the one before left it
+abbrev pub Calls : ℕ → List Call → List Event → Run → Type 2
 Calls s cs t d = FromStart Run stateOf Started Took Fetches Copies s cs t d
 
--- DEMAND 3: after every such list, with the question total that the run reports
-pub demand3-code : (s : ℕ) → 1 ≤ s → s ≤ mostPolynomials → (cs : List Call) (t : List Event) (d : Run) → Calls s cs t d
+-- DEMAND 3: after every such list, with the step that the start gave and the question total that the run reports
+pub demand3-code : (s : ℕ) → 1 ≤ s → s ≤ mostPolynomials → (cs : List Call) (t : List Event) (d : Run) (u : Calls s cs t d)
     → (total : ℕ) → asked.Learnt tt (d, tt) total (d, tt)
-    → Claim s (0 ∷ given running t) (taken running t) (phaseOf running t) total t
+    → Claim s (u .first) (asks (u .first) ++ given running t) (taken running t) (phaseOf running t) total t
 demand3-code s h m cs t d u total e = rw e (demand3-chain Run stateOf Started Took Fetches Copies kept s h m u)

@@ -1,7 +1,7 @@
 -- The walk of a function that changes a lent record, once for every such function. Assumes `Given`.
 --
---   writes == `fn(x: &mut D, z: E) -> S { let p = f(*x, z); *x = p.first; p.second }` promises of *x before and after, z and the result
---             what f promises of its parameters and its result's two fields
+--   writes == `fn(x: &mut D, z: E) -> S { let p = f(*x, z); *x = p.first; p.second }` promises ψ of *x before and after, z and the result,
+--             where f promises φ of its parameters and its result's two fields, and ψ follows from φ
 use mathlib.Core.Path.{refl}
 use mathlib.Core.List.{List, [], _∷_}
 use Prim.Native.Nat.{ℕ}
@@ -36,7 +36,8 @@ use Rattle.determination.proofs.Thin.{Data, Good, owned-of, opened, clo
 use Rattle.determination.proofs.Pieces.{Piece, Passed, Pair, pieceOf, passedOf, pairOf}
 
 module _ (d : Piece) (e : Passed) (s : Piece) (p : Pair d s) (f : Name)
-    (φ : d .lone .Denot → e .lone .Denot → d .lone .Denot → s .lone .Denot → Type 0) where
+    (φ ψ : d .lone .Denot → e .lone .Denot → d .lone .Denot → s .lone .Denot → Type 0)
+    (follows : (h : d .lone .Denot) (z : e .lone .Denot) (h′ : d .lone .Denot) (y : s .lone .Denot) → φ h z h′ y → ψ h z h′ y) where
   abbrev D : Data
   D = pieceOf d
 
@@ -81,7 +82,7 @@ module _ (d : Piece) (e : Passed) (s : Piece) (p : Pair d s) (f : Name)
     ghost = Unit {0};
     requires = λ g. emp 𝓤;
     ensures = λ g y ends. fact 𝓤
-        (φ (now (a .0)) (a .1 .0) (now (ends .0)) y);
+        (ψ (now (a .0)) (a .1 .0) (now (ends .0)) y);
   }
 
   -- those of f
@@ -132,7 +133,7 @@ module _ (d : Piece) (e : Passed) (s : Piece) (p : Pair d s) (f : Name)
         qed W (‵ (fobs γ (D .row .coded .code (p .first y))) ∷ ‵ (fbor κ (Body (mem (D .row)) b o γ)) ∷ ‵ (flft κ q) ∷ []) ∵
         suffices ! _ (ends-at 𝓤 H A ended stayed (clauses 𝓤) W (((κ, tt), (q, tt), tt, x, at), tt) (s .val (p .second y)) (p .second y)
         (p .first y, (tt, tt)) (tt, (tt, tt))) $
-        says ! i $ nothing ! $ move ! (3 ∷ 0 ∷ []) $ join ! $ frame ! $
+        says ! (follows h z (p .first y) (p .second y) i) $ nothing ! $ move ! (3 ∷ 0 ∷ []) $ join ! $ frame ! $
         feqI ! (List Val) (vptr b o ∷ []) (vptr b o ∷ []) refl $ fjoin3 ! $ nothing ! $ owned-of ! E z z-is $ fjoin ! $ move !
         (1 ∷ 0 ∷ []) $ fjoin ! $ owned-of ! S (p .second y) (p .second-good y y-is) $ move ! (1 ∷ 0 ∷ []) $ done !
 

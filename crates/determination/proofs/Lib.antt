@@ -7,4 +7,5 @@ pub mod Lengths
 pub mod Records
 pub mod Serves
 pub mod Rounds
+pub mod Worlds
 pub mod Contracts

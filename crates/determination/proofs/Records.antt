@@ -1,5 +1,5 @@
 -- The tests of a record: what they say, what passes them, and what the record stands for then.
-use mathlib.Core.Path.{_≡_, refl, sym, ap, _∙_}
+use mathlib.Core.Path.{_≡_, refl, sym, ap, _∙_, subst}
 use mathlib.Core.Bool.{Bool, true, false, cond, _&&_}
 use Prim.Native.Nat.{ℕ, _+_, _*_, _-_, _^_, _≤_, _<_}
 use native.Mathlib.Decide.{ℕ-discrete}
@@ -8,16 +8,16 @@ use borrow.Author.Tests.{ltb-true, leb-true, eqb-true, lt-ltb, le-leb, eq-eqb, n
 use lib.Dec.{eqb, leb, ltb}
 use lib.IntN.{ℤ}
 use lib.ListN.{take}
-use Rattle.refusals.specs.Numbers.{late}
+use Rattle.refusals.specs.Numbers.{late, isAmong, closingNumbers}
 use Rattle.refusals.specs.Limits.{mostPoints, mostPolynomials}
 use Rattle.signs.specs.Lists.{Below, isBelow}
 use Rattle.signs.proofs.Orders.{both-left, both-right, below-from, below-test}
 use Rattle.rounds.specs.RoundEnd.{roundRows}
-use Rattle.runs.specs.Run.{State, Phase, running, finished, closed, Step, refused, answerOf}
+use Rattle.runs.specs.Run.{State, Phase, running, finished, closed, Step, ask, done, refused, answerOf}
 use Rattle.runs.proofs.Steps.{answer-finished, answer-closed, not-late}
 use Rattle.run_parts.specs.Parts.{inLimits}
 use Rattle.determination.specs.Record.{runningPhase, donePhase, mostAsked, isSound, isRunning, isDone, stateIn, runningState}
-use Rattle.determination.specs.Record.{runPhase, stateOf, AnswerGives}
+use Rattle.determination.specs.Record.{runPhase, stateOf, ClosedWhere, AnswerGives}
 use Rattle.determination.specs.declared.Run.{Run}
 
 abbrev place : ℕ → ℕ → ℕ → ℕ → Bool
@@ -181,21 +181,46 @@ not-done r h = rw (ne-eqb (r .phase) donePhase h) refl
 pub closed-phase : (r : Run) → r .phase ≡ 2 → stateOf r ≡ stateIn closed r
 closed-phase r p = closed-is r (not-running r (λ z. omega (arith, z, p))) (not-done r (λ z. omega (arith, z, p)))
 
+-- ---- a step that refuses nothing
+
+module _ (run : Run) (x : Step) where
+  pub done-open : (r : State) → _≡_ {A = State × Step} (stateOf run, x) (r, done) → ClosedWhere run x
+  done-open r e k f =
+      let g : done ≡ refused k = sym (ap (λ (o : State × Step). o .1) e) ∙ f in
+      let y : _≡_ {A = ℕ} 0 1 = cc in
+      absurd (omega arith)
+
+  pub ask-open : (r : State) (α : ℕ) → _≡_ {A = State × Step} (stateOf run, x) (r, ask α) → ClosedWhere run x
+  ask-open r α e k f =
+      let g : ask α ≡ refused k = sym (ap (λ (o : State × Step). o .1) e) ∙ f in
+      let y : _≡_ {A = ℕ} 0 1 = cc in
+      absurd (omega arith)
+
 -- ---- what an answer promises
 
 -- of a run that goes on: the rules never refuse it with 7
 pub running-gives : (r r′ : Run) (z : ℤ) (x : Step) → isRunning r ≡ true → (stateOf r′, x) ≡ answerOf roundRows (runningState r) z
+    → ClosedWhere r′ x
     → AnswerGives r z r′ x
-running-gives r r′ z x e h =
+running-gives r r′ z x e h c =
     record {
       by-rules = rw (running-is r e) h;
       as-it-was = λ l. absurd (not-late roundRows (runningState r) z refl (sym (ap (λ (o : State × Step). o .1) h) ∙ l));
+      closes = λ k l _. c k l;
     }
 
 -- of any other
 pub late-gives : (r : Run) (z : ℤ) → isRunning r ≡ false → AnswerGives r z r (refused late)
-late-gives r z e = record { by-rules = sym (go (isDone r) refl); as-it-was = λ _. refl }
+unfolding isAmong closingNumbers
+late-gives r z e = record { by-rules = sym (go (isDone r) refl); as-it-was = λ _. refl; closes = λ k l t. absurd (no-close k l t) }
   where
+    no-close : (k : ℕ) → refused late ≡ refused k → isAmong k closingNumbers ≡ true → ⊥
+    no-close k l t =
+        let same : late ≡ k = cc in
+        let x : isAmong late closingNumbers ≡ true = subst (λ (j : ℕ). isAmong j closingNumbers ≡ true) (sym same) t in
+        let y : _≡_ {A = ℕ} 0 1 = cc in
+        omega arith
+
     go : (b : Bool) → isDone r ≡ b → answerOf roundRows (stateOf r) z ≡ (stateOf r, refused late)
     go true d = answer-finished roundRows (stateOf r) z (ap (λ (s : State). s .phase) (done-is r d))
     go false d = answer-closed roundRows (stateOf r) z (ap (λ (s : State). s .phase) (closed-is r e d))

@@ -1,23 +1,28 @@
 -- The run record of the code, and what it stands for in the rules of `Run`.
 --
 --   stepOf, fetchedOf, copiedOf == what the code's calls give, in the rules' words, with document 01's numbers
---   runningPhase, donePhase     == the phase of a record whose run goes on, and of one whose run is done
+--   runningPhase, donePhase,
+--   closedPhase                 == the phase of a record whose run goes on, of one whose run is done, and of one whose run is closed
 --   isSound run                 == the test of a running record: its numbers are within limits, and its products are of the polynomials
---                                  before its round
+--                                  before its round; nothing is asked of its patterns, counts and answers
 --   mostAsked                   == a number above the questions of any such record
 --   isRunning run               == the test of a record whose run goes on
---   isDone run                  == the test of a record that is done: at most 64 rows
+--   isDone run                  == the test of a record that is done: at most 64 rows; nothing is asked of what these are
 --   unlessClosed f l            == the list l, which a closed record does not hold
 --   whileRunning f l            == the list l, which a record holds only while the run goes on
 --   stateIn f run               == what the record stands for in the phase f: closed, it holds no rows, and only while the run goes on
 --                                  products and answers
 --   runningState run            == what the record stands for where its run goes on
---   runPhase run                == the phase that the record stands for. A record may hold anything: one that no start and no answer could
---                                  have left, so that it fails the test, stands for a closed run
---   stateOf run                 == what the record stands for, in that phase
+--   runPhase run                == the phase that the record stands for: of a run that goes on or is done where it passes that test, and of
+--                                  a closed run where it passes neither, whatever it holds
+--   stateOf run                 == what the record stands for, in that phase: its numbers, rows, products and answers as they stand, also
+--                                  where no start and no answer could have left them
 --   withAnswer r z, lateOn r    == the round's answers with one more, and what an answer after the end gives
+--   IsClosed run                == the record itself is a closed one: its phase is that of a closed run, and it has no rows and no answers
+--   ClosedWhere run step        == where the step is a refusal the record is a closed one
 --   AnswerGives run a run′ step == what an answer a to the record run promises of the record run′ after it and of the step
 --   startedOf s                 == the record that a start for s polynomials gives, and the step: 3 outside 1 .. 8
+--   StartGives s run step       == what a start for s polynomials promises of the record run and of the step
 use mathlib.Core.Path.{_≡_}
 use mathlib.Core.Bool.{Bool, true, cond, _&&_}
 use mathlib.Core.List.{List, [], _∷_, _++_}
@@ -25,7 +30,7 @@ use Prim.Native.Nat.{ℕ, suc, _+_, _*_, _-_, _^_}
 use lib.Dec.{eqb, leb}
 use lib.IntN.{ℤ}
 use lib.ListN.{take}
-use Rattle.refusals.specs.Numbers.{late, wrongCount}
+use Rattle.refusals.specs.Numbers.{late, wrongCount, isAmong, closingNumbers}
 use Rattle.refusals.specs.Limits.{mostPoints, mostPolynomials}
 use Rattle.signs.specs.Lists.{isBelow}
 use Rattle.rounds.specs.Rows.{Row, rowsWith}
@@ -65,6 +70,9 @@ runningPhase = 0
 
 abbrev pub donePhase : ℕ
 donePhase = 1
+
+abbrev pub closedPhase : ℕ
+closedPhase = 2
 
 abbrev pub mostAsked : ℕ
 mostAsked = 2 * mostPoints * suc mostPolynomials
@@ -122,6 +130,16 @@ runPhase r = cond (isRunning r) running (cond (isDone r) finished closed)
 unfoldable pub stateOf : Run → State
 stateOf r = stateIn (runPhase r) r
 
+-- ---- a record that a refusal closed
+
+pub record IsClosed (run : Run) : Type 0 where
+  pub phase : run .phase ≡ closedPhase
+  pub no-rows : run .rows ≡ 0
+  pub no-answers : run .answered ≡ 0
+
+abbrev pub ClosedWhere : Run → Step → Type 0
+ClosedWhere run step = (k : ℕ) → step ≡ refused k → IsClosed run
+
 -- ---- an answer
 
 pub record AnswerGives (run : Run) (a : ℤ) (run′ : Run) (step : Step) : Type 0 where
@@ -129,8 +147,16 @@ pub record AnswerGives (run : Run) (a : ℤ) (run′ : Run) (step : Step) : Type
   pub by-rules : _≡_ {A = State × Step} (stateOf run′, step) (answerOf roundRows (stateOf run) a)
   -- and where the answer comes too late the record is as it was, whatever it holds
   pub as-it-was : step ≡ refused late → run′ ≡ run
+  -- and where a number closes the run, "the record is then closed and holds no rows"
+  pub closes : (k : ℕ) → step ≡ refused k → isAmong k closingNumbers ≡ true → IsClosed run′
 
 -- ---- the start
 
 unfoldable pub startedOf : ℕ → State × Step
 startedOf s = cond (leb 1 s && leb s mostPolynomials) (startOf s, ask 0) (newIn closed s, refused wrongCount)
+
+pub record StartGives (s : ℕ) (run : Run) (step : Step) : Type 0 where
+  -- the two are as the rules say
+  pub by-rules : _≡_ {A = State × Step} (stateOf run, step) (startedOf s)
+  -- and the record of a start that is refused is "a closed one"
+  pub closes : ClosedWhere run step

@@ -1,8 +1,12 @@
 // The run (document 01, "The run"): its record by value, the start, an answer, a row fetch and a copy of all rows. The rules are in the
 // crate `runs`, and what a record stands for in them in specs/Record.
 //
-// No public call has a condition: a record may hold anything. One that no start and no answer could have left is taken for a closed one: every
-// call on it gives 7 and leaves it as it was.
+// No public call has a condition: a record may hold anything, also what no start and no answer could have left. What is tested, and no more:
+// - An answer is taken where the phase is RUNNING, the numbers are in their limits (`in_limits`) and the products kept are below 3^(round − 1). It
+//   is worked out from the patterns, counts and answers as they stand; at a round's end, rows that no round leaves give 10. Else 7.
+// - Rows are served where the phase is DONE and there are at most 64: the patterns and counts as they stand, whatever they are. Else 7.
+// - `asked` gives the number as it stands.
+// A call that gives 7 leaves the record as it was.
 ghost use mathlib.Core.Path.{_≡_};
 ghost use mathlib.Core.Bool.{true, false};
 ghost use mathlib.Core.Option.{some};
@@ -14,7 +18,7 @@ ghost use Rattle.signs.specs.Lists.{Below, Rising};
 ghost use Rattle.rounds.specs.RoundEnd.{roundRows};
 ghost use Rattle.runs.specs.Run.{close as closeOf, roundStep, endRound, ended, firstAnswer as firstOf, laterAnswer as laterOf, fetchOf, copyOf};
 ghost use Rattle.run_parts.specs.Parts.{heldRows};
-ghost use Rattle.determination.specs.Record.{runningPhase, mostAsked, isSound, isRunning, runningState, withAnswer, isDone, lateOn, stateOf, stepOf, fetchedOf, copiedOf, AnswerGives, startedOf};
+ghost use Rattle.determination.specs.Record.{runningPhase, mostAsked, isSound, isRunning, runningState, withAnswer, isDone, lateOn, stateOf, stepOf, fetchedOf, copiedOf, IsClosed, ClosedWhere, AnswerGives, StartGives};
 use integers::magnitude;
 use refusals::BAD_FIRST;
 use refusals::BAD_LATER;
@@ -119,7 +123,7 @@ fn fresh(s: usize, phase: u8) -> Run
 // The start of a run for s polynomials: its record, and product 0 to ask. Where s is outside 1 .. 8 the step is 3, and the record is a closed one
 // with no question asked.
 pub fn start(s: usize) -> Answered
-    ensures { λ r. ⌜ (stateOf (r .run), stepOf (r .step)) ≡ startedOf s ⌝ }
+    ensures { λ r. ⌜ StartGives s (r .run) (stepOf (r .step)) ⌝ }
 {
     if s < 1 {
         return Answered {
@@ -139,7 +143,7 @@ pub fn start(s: usize) -> Answered
     }
 }
 
-// Whether a running record is such as the calls leave.
+// Whether the numbers of a running record are in their limits, and its products below 3^(round − 1). Its rows and answers are not looked at.
 fn sound(run: Run) -> bool
     ensures { λ r. ⌜ r ≡ isSound run ⌝ }
 {
@@ -164,15 +168,15 @@ fn running(run: Run) -> bool
     sound(run)
 }
 
-// The record closed by a refusal: one more question, and no rows.
+// The record closed by a refusal: one more question, no rows and no answers.
 fn close(mut run: Run, k: u16) -> Answered
     requires { ⌜ run .asked < mostAsked ⌝ }
-    ensures { λ r. ⌜ (stateOf (r .run), stepOf (r .step)) ≡ closeOf roundRows (runningState run) k ⌝ }
+    ensures { λ r. ⌜ ((stateOf (r .run), stepOf (r .step)) ≡ closeOf roundRows (runningState run) k) × IsClosed (r .run) ⌝ }
 {
     run.asked = run.asked + 1;
     run.phase = CLOSED;
     run.rows = 0;
-    run.answered = 0;
+    run.answered = 0; // none of the round that is left
     Answered {
         run: run,
         step: Step::Refused(k),
@@ -229,7 +233,7 @@ fn begin(mut run: Run, i: usize, n: u64, found: Rows) -> Answered
 // The first answer: the number of points.
 fn first_answer(run: Run, a: i64) -> Answered
     requires { ⌜ (isRunning run ≡ true) × (run .round ≡ 0) ⌝ }
-    ensures { λ r. ⌜ (stateOf (r .run), stepOf (r .step)) ≡ firstOf roundRows (runningState run) a ⌝ }
+    ensures { λ r. ⌜ ((stateOf (r .run), stepOf (r .step)) ≡ firstOf roundRows (runningState run) a) × ClosedWhere (r .run) (stepOf (r .step)) ⌝ }
 {
     if a < 0 {
         return close(run, BAD_FIRST);
@@ -267,7 +271,7 @@ fn ask_next(mut run: Run, a: i64) -> Answered
 fn next_round(run: Run, found: Rows) -> Answered
     requires { ⌜ (isRunning run ≡ true) × (0 < run .round) × (0 < found .number) × (found .number ≤ mostPoints) ⌝ }
     requires { ⌜ Rising (take (found .number) (found .patterns)) × Below (3 ^ run .round) (take (found .number) (found .patterns)) ⌝ }
-    ensures { λ r. ⌜ (stateOf (r .run), stepOf (r .step)) ≡ endRound roundRows (runningState run) (run .round - 1) (some (heldRows found)) ⌝ }
+    ensures { λ r. ⌜ ((stateOf (r .run), stepOf (r .step)) ≡ endRound roundRows (runningState run) (run .round - 1) (some (heldRows found))) × ClosedWhere (r .run) (stepOf (r .step)) ⌝ }
 {
     let round = run.round;
     if round == run.polynomials {
@@ -279,7 +283,7 @@ fn next_round(run: Run, found: Rows) -> Answered
 // The last answer of a round.
 fn end_round(run: Run, a: i64) -> Answered
     requires { ⌜ (isRunning run ≡ true) × (0 < run .round) × (run .answered + 1 ≡ 2 * run .rows) ⌝ }
-    ensures { λ r. ⌜ (stateOf (r .run), stepOf (r .step)) ≡ roundStep roundRows (runningState run) (run .round - 1) (withAnswer run a) false ⌝ }
+    ensures { λ r. ⌜ ((stateOf (r .run), stepOf (r .step)) ≡ roundStep roundRows (runningState run) (run .round - 1) (withAnswer run a) false) × ClosedWhere (r .run) (stepOf (r .step)) ⌝ }
 {
     let after = find_rows(
         run.round - 1,
@@ -311,7 +315,7 @@ fn end_round(run: Run, a: i64) -> Answered
 // An answer after the first.
 fn later_answer(run: Run, a: i64) -> Answered
     requires { ⌜ (isRunning run ≡ true) × (0 < run .round) ⌝ }
-    ensures { λ r. ⌜ (stateOf (r .run), stepOf (r .step)) ≡ laterOf roundRows (runningState run) (run .round - 1) a ⌝ }
+    ensures { λ r. ⌜ ((stateOf (r .run), stepOf (r .step)) ≡ laterOf roundRows (runningState run) (run .round - 1) a) × ClosedWhere (r .run) (stepOf (r .step)) ⌝ }
 {
     let n = run.n;
     let k = run.answered;
@@ -371,7 +375,7 @@ pub fn answer_through(run: Run, a: i64) -> Answered
     }
 }
 
-// Whether the run is done, and its rows can be had.
+// Whether the run is done, and its rows can be had: at most 64. The rows themselves are not looked at.
 fn done(run: Run) -> bool
     ensures { λ r. ⌜ r ≡ isDone run ⌝ }
 {

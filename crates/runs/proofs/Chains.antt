@@ -3,22 +3,22 @@
 -- x that a start for s gives the record c and the step x, Answers c z c′ x that the answer z to the record c leaves c′ and gives x, and so
 -- on.
 use mathlib.Core.Path.{_≡_, refl, ap, ap₂, _∙_}
-use mathlib.Core.List.{List, [], _∷_}
+use mathlib.Core.List.{List, [], _∷_, _++_}
 use Prim.Native.Nat.{ℕ, _≤_}
 use lib.IntN.{ℤ}
 use Rattle.refusals.specs.Limits.{mostPolynomials}
 use Rattle.rounds.specs.RoundEnd.{roundRows}
 use Rattle.runs.specs.Run.{State, startOf, Step, ask, Fetch, Copy, running, answerOf, fetchOf, copyOf}
 use Rattle.runs.specs.Demand.{Call, answer, fetch, copy, Event, answered, fetched, copiedTo, stateAfter, events, phaseOf, taken}
-use Rattle.runs.specs.Demand.{given, Claim}
+use Rattle.runs.specs.Demand.{asks, given, Claim}
 use Rattle.runs.proofs.DemandThree.{demand3}
 use Rattle.runs.specs.Reached.{Reached}
 use Rattle.runs.proofs.Reached.{reached}
 
-module _ (C : Type 0) (view : C → State) (Starts : ℕ → C → Step → Type 0) (Answers : C → ℤ → C → Step → Type 0)
-    (Fetches : C → ℕ → Fetch → Type 0) (Copies : C → List ℕ → List ℕ → Copy → Type 0) where
+module _ {ℓ} (C : Type 0) (view : C → State) (Starts : ℕ → C → Step → Type ℓ) (Answers : C → ℤ → C → Step → Type ℓ)
+    (Fetches : C → ℕ → Fetch → Type ℓ) (Copies : C → List ℕ → List ℕ → Copy → Type ℓ) where
   -- the calls cs from the record c give the events t and leave the record d: each call gets the record as the one before left it
-  pub data Chain : C → List Call → List Event → C → Type 0 where
+  pub data Chain : C → List Call → List Event → C → Type ℓ where
     stop : {c : C} → Chain c [] [] c
     by-answer : {c c′ d : C} {z : ℤ} {x : Step} {cs : List Call} {t : List Event}
         → Answers c z c′ x → Chain c′ cs t d → Chain c (answer z ∷ cs) (answered z x ∷ t) d
@@ -28,14 +28,14 @@ module _ (C : Type 0) (view : C → State) (Starts : ℕ → C → Step → Type
         → Copies c a b x → Chain c cs t d → Chain c (copy a b ∷ cs) (copiedTo a b x ∷ t) d
 
   -- the same after a start for s: "the start" of demand 3's list of calls
-  pub record FromStart (s : ℕ) (cs : List Call) (t : List Event) (d : C) : Type 0 where
+  pub record FromStart (s : ℕ) (cs : List Call) (t : List Event) (d : C) : Type ℓ where
     pub began : C
     pub first : Step
     pub start : Starts s began first
     pub calls : Chain began cs t d
 
   -- the contracts are equations with the rules
-  pub record Keeps : Type 0 where
+  pub record Keeps : Type ℓ where
     pub starts : (s : ℕ) (c : C) (x : Step) → 1 ≤ s → s ≤ mostPolynomials → Starts s c x → (view c ≡ startOf s) × (x ≡ ask 0)
     pub answers : (c : C) (z : ℤ) (c′ : C) (x : Step) → Answers c z c′ x
         → (view c′ ≡ answerOf roundRows (view c) z .0) × (x ≡ answerOf roundRows (view c) z .1)
@@ -69,9 +69,13 @@ module _ (C : Type 0) (view : C → State) (Starts : ℕ → C → Step → Type
       (e ∙ ap (λ (r : State). events roundRows r cs) v, f ∙ ap (λ (r : State). stateAfter roundRows r cs) v)
 
   -- DEMAND 3 of the code, for every chain of calls after a start
-  pub demand3-chain : Keeps → (s : ℕ) → 1 ≤ s → s ≤ mostPolynomials → {cs : List Call} {t : List Event} {d : C} → FromStart s cs t d
-      → Claim s (0 ∷ given running t) (taken running t) (phaseOf running t) (view d .total) t
-  demand3-chain k s h m {cs} {t} {d} u = let (e, f) = run-plays k s h m u in rw (e, f) (demand3 s h m cs)
+  pub demand3-chain : Keeps → (s : ℕ) → 1 ≤ s → s ≤ mostPolynomials → {cs : List Call} {t : List Event} {d : C}
+      (u : FromStart s cs t d)
+      → Claim s (u .first) (asks (u .first) ++ given running t) (taken running t) (phaseOf running t) (view d .total) t
+  unfolding asks
+  demand3-chain k s h m {cs} {t} {d} u =
+      let (e, f) = run-plays k s h m u in
+      rw (k .starts s (u .began) (u .first) h m (u .start) .1, e, f) (demand3 s h m cs)
 
   -- and what its records hold
   pub reached-chain : Keeps → (s : ℕ) → 1 ≤ s → s ≤ mostPolynomials → {cs : List Call} {t : List Event} {d : C} → FromStart s cs t d

@@ -11,17 +11,19 @@ use lib.ListN.{length, replicate, take, drop, length-replicate, length-append, l
 use lib.Seq.{take-length, take-take}
 use Rattle.refusals.specs.Limits.{mostPolynomials}
 use Rattle.signs.specs.Lists.{times}
-use Rattle.runs.specs.Demand.{Call, Event, stateAfter, events, taken, given, waiting, SomeFits, Claim, ClaimFor, Demand3}
+use Rattle.runs.specs.Demand.{Call, Event, stateAfter, events, taken, given, closedBy, waiting, NoCounts, SomeFits, Claim, ClaimFor}
+use Rattle.runs.specs.Demand.{Demand3}
 use Rattle.rounds.specs.NextRows.{RightRows}
 use Rattle.rounds.specs.RoundEnd.{roundRows}
 use Rattle.rounds.specs.Rounds.{roundOf, Answered, Determined, AtEnd, LastEnded, Past, InOrder, RowsAfter}
 use Rattle.rounds.specs.Rows.{Row, patterns, repeated, Positive, Oracle, realized, IsRealized, Fits}
-use Rattle.runs.specs.Run.{Phase, running, finished, closed, State, startOf}
+use Rattle.runs.specs.Run.{ask, Phase, running, finished, closed, State, startOf}
 use Rattle.rounds.proofs.RowLaws.{times-single}
 use Rattle.rounds.proofs.Realized.{realized-true}
 use Rattle.rounds.proofs.Answers.{Facts, facts, round-length}
 use Rattle.runs.proofs.Phases.{running-not-closed, finished-not-closed, running-not-finished, closed-not-finished}
-use Rattle.runs.proofs.Invariant.{At, Inv, start-inv, asked-once, going-length, going-fits}
+use Rattle.runs.proofs.Causes.{OutOfLimits, Cause, limits-take, none-in, fits-in, counts-fit, is-8, is-9, is-10, why-8, why-9, why-10}
+use Rattle.runs.proofs.Invariant.{At, Inv, start-inv, asked-once, going-length, going-fits, going-in}
 use Rattle.rounds.proofs.RoundEnds.{roundRows-right}
 use Rattle.rounds.proofs.Rounds.{at-end, answered-past, end-nonempty, not-ended, rows-oracle, realized-rows, fits-first, fits-take}
 use Rattle.rounds.proofs.Rounds.{fits-end}
@@ -107,6 +109,35 @@ module _ (s : ℕ) (h : 1 ≤ s) (r : State) (zs : List ℤ) (ps : List ℕ) whe
           last (yes b) = absurd (none-later (x .in-time m i qs b e))
           last (no b) = (refl, omega arith)
 
+  -- ---- which number closes
+
+  -- the answers of a done run are in their limits
+  finished-in : Determined s zs ps (r .rows) → OutOfLimits zs → ⊥
+  finished-in c =
+      let F = facts s zs ps (r .rows) c in
+      let (O, f) = rows-oracle s s zs ps (r .rows) (omega arith) F in
+      fits-in s (repeated (r .rows)) (F .later-products) zs O
+      (subst (λ (l : List ℕ). Fits s (repeated (r .rows)) l zs) (F .first-product) f)
+
+  -- an answer out of its limits closes the run, and no other is taken after it
+  limits-all : (f : Phase) (k : ℕ) → At s r zs ps f k → (m : ℕ) → m < length zs → OutOfLimits (take m zs) → ⊥
+  limits-all running zero (a, b, c) m h o = absurd (omega (arith, ap length a))
+  limits-all running (suc i) g m h o = going-in s r zs ps i g (limits-take m zs o)
+  limits-all finished k c m h o = finished-in c (limits-take m zs o)
+  limits-all closed k x m h o = x .at-once m h o
+
+  closes-all : (f : Phase) (k : ℕ) → At s r zs ps f k → OutOfLimits zs → f ≡ closed
+  closes-all running zero (a, b, c) o = absurd (none-in (subst OutOfLimits a o))
+  closes-all running (suc i) g o = absurd (going-in s r zs ps i g o)
+  closes-all finished k c o = absurd (finished-in c o)
+  closes-all closed k x o = refl
+
+  no-counts-all : (f : Phase) (k : ℕ) → At s r zs ps f k → NoCounts s zs ps → f ≡ closed
+  no-counts-all f k x c =
+      closed-all f k x (length zs) (length zs) (suc (c .0)) ps (omega arith) (omega arith) (c .1)
+      (λ t. counts-fit s zs ps c (subst (SomeFits s ps) (take-length zs) t))
+      (subst (λ (l : List ℤ). AtEnd (suc (c .0)) l ps) (sym (take-length zs)) (unfold AtEnd in c .2)) .0
+
   -- ---- done at the end
 
   done-all : (f : Phase) (k : ℕ) → At s r zs ps f k → (f ≡ finished) ↔ (LastEnded s zs × SomeFits s ps zs)
@@ -184,9 +215,10 @@ module _ (s : ℕ) (h : 1 ≤ s) (r : State) (zs : List ℤ) (ps : List ℕ) whe
 
   claim : (t : List Event) (R : List Row) → Story s running R [] (0 ∷ []) t r → zs ≡ taken running t → ps ≡ 0 ∷ given running t
       → Inv s r zs ps
-      → Claim s ps zs (r .phase) (r .total) t
+      → Claim s (ask 0) ps zs (r .phase) (r .total) t
   claim t R S a b I =
       record {
+        starts = refl;
         orderly = S .orderly;
         answer-each = each-length (r .phase) (r .round) (I .at);
         once = once-all (r .phase) (r .round) (I .at);
@@ -194,6 +226,19 @@ module _ (s : ℕ) (h : 1 ≤ s) (r : State) (zs : List ℤ) (ps : List ℕ) whe
         counted = I .count;
         open-while = open-all (r .phase) (r .round) (I .at);
         closed-by = closed-all (r .phase) (r .round) (I .at);
+        closed-by-8 = (
+          λ e. why-8 s zs ps (because 8 e),
+          λ o. named 8 (closes-all (r .phase) (r .round) (I .at) (inl o)) (λ k c. is-8 s zs ps k c o),
+        );
+        closed-by-9 = (
+          λ e. why-9 s zs ps (because 9 e),
+          λ o. named 9 (closes-all (r .phase) (r .round) (I .at) (inr o)) (λ k c. is-9 s zs ps k c o),
+        );
+        closed-by-10 = (
+          λ e. why-10 s zs ps (because 10 e),
+          λ o. named 10 (no-counts-all (r .phase) (r .round) (I .at) (o .0)) (λ k c. is-10 s zs ps k c (o .0) (o .1)),
+        );
+        at-once = limits-all (r .phase) (r .round) (I .at);
         done-when = done-all (r .phase) (r .round) (I .at);
         key = λ e. (
           r .rows,
@@ -208,13 +253,19 @@ module _ (s : ℕ) (h : 1 ≤ s) (r : State) (zs : List ℤ) (ps : List ℕ) whe
         exact = λ e m. exact-all (r .phase) (r .round) (I .at) e m (I .count);
         most = λ e m. most-all (r .phase) (r .round) (I .at) e m (I .count);
       }
+    where
+      because : (k : ℕ) → closedBy running t ≡ k ∷ [] → Cause s k zs ps
+      because k e = rw (a, b) (S .cause k e)
+
+      named : (k : ℕ) → r .phase ≡ closed → ((j : ℕ) → Cause s j zs ps → j ≡ k) → closedBy running t ≡ k ∷ []
+      named k e w = let (j, m) = S .number refl e in m ∙ ap (λ (x : ℕ). x ∷ []) (w j (because j m))
 
 -- for every s, and every way to end a round that is right
 pub demand3-for : (N : ℕ → List Row → List ℤ → Option (List Row)) → RightRows N → (s : ℕ) → 1 ≤ s → (calls : List Call) → ClaimFor N s calls
 demand3-for N right s h calls =
     let S : Story s running [] [] (0 ∷ []) (events N (startOf s) calls) (stateAfter N (startOf s) calls) =
     story N right s h calls (startOf s) [] (0 ∷ []) (start-inv s) in
-    subst (λ (f : Phase). Claim s (0 ∷ given running t) (taken running t) f (stateAfter N (startOf s) calls .total) t) (sym (S .phase))
+    subst (λ (f : Phase). Claim s (ask 0) (0 ∷ given running t) (taken running t) f (stateAfter N (startOf s) calls .total) t) (sym (S .phase))
     (claim s h (stateAfter N (startOf s) calls) (taken running t) (0 ∷ given running t) t [] S refl refl (S .inv))
   where
     t : List Event

@@ -11,6 +11,8 @@ use native.Mathlib.Nat.{mul-le-mul}
 use borrow.Author.Tests.{ltb-true, ltb-false, leb-true, leb-false, eqb-true, eqb-false, lt-ltb, le-ltb}
 use lib.Dec.{eqb, leb, ltb, eqb·suc-zero}
 use lib.IntN.{ℤ, pos, negsuc, natAbs}
+use lib.Signed.{_<ℤ_}
+use Rattle.integers.proofs.Parts.{int}
 use lib.ListN.{length, take, drop, getD, length-append, length-take, take-append-drop, List·getD-append}
 use lib.Seq.{take-suc, take-all, take-append-le, getD-append-add}
 use Rattle.refusals.specs.Limits.{mostPoints}
@@ -19,14 +21,16 @@ use Rattle.signs.specs.Adapted.{adapted}
 use Rattle.signs.proofs.Lists.{times-append, times-take}
 use Rattle.signs.proofs.Queries.{counts}
 use Rattle.signs.proofs.Size.{length-shift}
-use Rattle.runs.specs.Demand.{heard, asks, Proper, SomeFits}
+use Rattle.runs.specs.Demand.{heard, asks, Proper, SomeFits, FirstOut, SomeOutside, LaterOut}
 use Rattle.rounds.specs.NextRows.{RightRows}
 use Rattle.rounds.specs.Rounds.{roundOf, Answered, Determined, AtEnd, InOrder}
 use Rattle.rounds.specs.Rows.{Row, patterns, repeated, rowIf, rowsOf, Fits}
-use Rattle.runs.specs.Run.{Step, Phase, running, finished, closed, State, startOf, roundProduct, close, ended, endRound, roundStep}
-use Rattle.runs.specs.Run.{firstAnswer, laterAnswer, inRound, inPhase, answerOf}
+use Rattle.runs.specs.Run.{Step, refused, Phase, running, finished, closed, State, startOf, roundProduct, close, ended, endRound, roundStep}
+use Rattle.runs.specs.Run.{limitOf, firstAnswer, laterAnswer, inRound, inPhase, answerOf}
+use Rattle.runs.proofs.Causes.{OutOfLimits, Cause, by-first, by-later, by-counts, one-within, one-outside, later-from, first-in}
+use Rattle.runs.proofs.Causes.{limits-in, limits-take, none-in}
 use Rattle.rounds.proofs.Answers.{Facts, facts, more-rows, query-zero, round-low, round-once, round-length}
-use Rattle.rounds.proofs.RowLaws.{times-single}
+use Rattle.rounds.proofs.RowLaws.{times-single, points-below}
 use Rattle.rounds.specs.Rows.{restrict}
 use Rattle.rounds.proofs.Questions.{rows-most}
 use Rattle.rounds.proofs.Rounds.{rows-oracle, determined-empty, next-counts, next-determined, oracle-next, fits-first, fits-last}
@@ -46,6 +50,8 @@ pub record Going (s : ℕ) (r : State) (zs : List ℤ) (ps : List ℕ) (i : ℕ)
   pub adapted-list : r .products ≡ adapted i (patterns (r .rows))
   pub later-answers : List ℤ
   pub first-answer : before ≡ pos (r .n) ∷ later-answers
+  -- every answer after the first is in its limits
+  pub within : SomeOutside (r .n) (later-answers ++ r .answers) → ⊥
 
 -- the run was closed, and rightly
 pub record Closed (s : ℕ) (zs : List ℤ) (ps : List ℕ) : Type 0 where
@@ -55,6 +61,8 @@ pub record Closed (s : ℕ) (zs : List ℤ) (ps : List ℕ) : Type 0 where
   pub once : (α : ℕ) → times α ps ≤ 1
   -- and not later than at the first end of a round at which none fits
   pub in-time : (k i : ℕ) (qs : List ℕ) → k < length zs → AtEnd i (take k zs) qs → SomeFits s ps (take k zs)
+  -- nor later than at the first answer out of its limits
+  pub at-once : (k : ℕ) → k < length zs → OutOfLimits (take k zs) → ⊥
 
 abbrev pub At : ℕ → State → List ℤ → List ℕ → Phase → ℕ → Type 0
 At s r zs ps running zero = (zs ≡ []) × (ps ≡ 0 ∷ []) × (r ≡ startOf s)
@@ -176,6 +184,19 @@ going-fits s r zs ps c g j i qs hj e = go (decLt c i)
         fits-end s zs ps i c j (g .before) (r .answers) qs (g .asked) (r .rows) (omega (arith, g .in-range)) (omega arith) hj
         (g .determined) (g .answers) e _ (g .products)
 
+-- its answers are in their limits
+pub going-in : (s : ℕ) (r : State) (zs : List ℤ) (ps : List ℕ) (c : ℕ) → Going s r zs ps c → OutOfLimits zs → ⊥
+going-in s r zs ps c g =
+    limits-in (r .n) (g .later-answers ++ r .answers) zs (g .answers ∙ ap (λ (l : List ℤ). l ++ r .answers) (g .first-answer))
+    (omega (
+      arith,
+      fits-first c _ (g .asked) (g .before) (r .n) (g .later-answers) (F .later-products) (g .first-answer) (F .first-product) (F .fits),
+      rows-oracle c c (g .before) (g .asked) (r .rows) (omega arith) F .0 .held,
+    )) (g .within)
+  where
+    F : Facts c (g .before) (g .asked) (r .rows)
+    F = facts c (g .before) (g .asked) (r .rows) (g .determined)
+
 -- ---- an answer taken
 
 -- what an answer z leaves, from the answers zs and the products ps before it
@@ -183,6 +204,7 @@ pub record After (s : ℕ) (zs : List ℤ) (ps : List ℕ) (z : ℤ) (out : Stat
   pub inv : Inv s (out .0) (zs ++ (z ∷ [])) (ps ++ asks (out .1))
   pub phase : heard running (out .1) ≡ out .0 .phase
   pub proper : Proper running (out .1)
+  pub cause : (k : ℕ) → out .1 ≡ refused k → Cause s k (zs ++ (z ∷ [])) ps
 
 one-more : (zs : List ℤ) (z : ℤ) → length (zs ++ (z ∷ [])) ≡ suc (length zs)
 one-more zs z = omega (arith, length-append zs (z ∷ []))
@@ -194,9 +216,10 @@ cond-after s zs ps z x y false f g = g refl
 
 module _ (N : ℕ → List Row → List ℤ → Option (List Row)) (s : ℕ) (r : State) (zs : List ℤ) (ps : List ℕ) (z : ℤ)
     (polys : r .polynomials ≡ s) (count : r .total ≡ length zs) (i : ℕ) (in-range : i ≤ s) (short : length zs ≤ 2 * mostPoints * i) where
-  close-after : (k : ℕ) → r .round ≡ i → (k ≡ 8) ⊎ ((k ≡ 9) ⊎ (k ≡ 10)) → Closed s (zs ++ (z ∷ [])) ps → After s zs ps z (close N r k)
+  close-after : (k : ℕ) → r .round ≡ i → (k ≡ 8) ⊎ ((k ≡ 9) ⊎ (k ≡ 10)) → Cause s k (zs ++ (z ∷ [])) ps → Closed s (zs ++ (z ∷ [])) ps
+      → After s zs ps z (close N r k)
   unfolding heard asks Proper
-  close-after k same c h =
+  close-after k same c w h =
       record {
         inv = record {
           polys = polys;
@@ -207,6 +230,7 @@ module _ (N : ℕ → List Row → List ℤ → Option (List Row)) (s : ℕ) (r 
         };
         phase = refl;
         proper = c;
+        cause = λ m e. let x : k ≡ m = cc in subst (λ (j : ℕ). Cause s j (zs ++ (z ∷ [])) ps) x w;
       }
 
   -- round i, the last one, has ended
@@ -223,13 +247,14 @@ module _ (N : ℕ → List Row → List ℤ → Option (List Row)) (s : ℕ) (r 
         };
         phase = refl;
         proper = tt;
+        cause = λ m e. let x : _≡_ {A = ℕ} 0 1 = cc in absurd (omega arith);
       }
 
   -- round i has ended and another begins
   begin-after : (n : ℕ) (R : List Row) (later-answers : List ℤ) → Determined i (zs ++ (z ∷ [])) ps R → i < s → 0 < length R
-      → zs ++ (z ∷ []) ≡ pos n ∷ later-answers → After s zs ps z (ended N r i n R false)
+      → zs ++ (z ∷ []) ≡ pos n ∷ later-answers → (SomeOutside n later-answers → ⊥) → After s zs ps z (ended N r i n R false)
   unfolding heard asks Proper
-  begin-after n R more c h m e =
+  begin-after n R more c h m e w =
       record {
         inv = record {
           polys = polys;
@@ -249,10 +274,12 @@ module _ (N : ℕ → List Row → List ℤ → Option (List Row)) (s : ℕ) (r 
             adapted-list = refl;
             later-answers = more;
             first-answer = e;
+            within = λ x. w (subst (SomeOutside n) (append-nil more) x);
           };
         };
         phase = refl;
         proper = tt;
+        cause = λ m e. let x : _≡_ {A = ℕ} 0 1 = cc in absurd (omega arith);
       }
     where
       some-product : 0 < length (roundOf i (patterns R))
@@ -270,11 +297,17 @@ closed-first s z h =
       order = inl refl;
       once = λ α. times-single α 0;
       in-time = λ k i qs m e. absurd (omega (arith, end-nonempty i (take k (z ∷ [])) qs e, length-take k (z ∷ [])));
+      at-once = λ k m o. let e : k ≡ 0 = omega arith in none-in (subst (λ (j : ℕ). OutOfLimits (take j (z ∷ []))) e o);
     }
+
+cause-first : (s : ℕ) (z : ℤ) → (z <ℤ pos 0) ⊎ (pos 64 <ℤ z) → Cause s 8 (z ∷ []) (0 ∷ [])
+unfolding SomeOutside
+cause-first s z h = by-first refl (z, [], refl, h) (λ (n, l, e, o). let x : l ≡ [] = cc in subst (SomeOutside n) x o)
 
 first-after : (N : ℕ → List Row → List ℤ → Option (List Row)) (s : ℕ) (z : ℤ) → 1 ≤ s → After s [] (0 ∷ []) z (firstAnswer N (startOf s) z)
 first-after N s (negsuc n) h =
     close-after N s (startOf s) [] (0 ∷ []) (negsuc n) refl refl 0 (omega arith) (omega arith) 8 refl (inl refl)
+    (cause-first s (negsuc n) (inl (omega int)))
     (closed-first s (negsuc n) (λ E k e. let x : _≡_ {A = ℕ} 0 1 = cc in omega arith))
 first-after N s (pos zero) h =
     done-after N s (startOf s) [] (0 ∷ []) (pos 0) refl refl 0 (omega arith) (omega arith) 0 (rowIf 0 0)
@@ -283,8 +316,10 @@ first-after N s (pos (suc n)) h =
     cond-after s [] (0 ∷ []) (pos (suc n)) _ _ (leb (suc n) mostPoints)
     (λ t. rw (eqb·suc-zero n)
     (begin-after N s (startOf s) [] (0 ∷ []) (pos (suc n)) refl refl 0 (omega arith) (omega arith) (suc n) (rowIf 0 (suc n)) []
-    (unfold Determined in (suc n, leb-true (suc n) mostPoints t, refl, refl, refl)) (omega arith) (unfold rowIf in omega arith) refl))
+    (unfold Determined in (suc n, leb-true (suc n) mostPoints t, refl, refl, refl)) (omega arith) (unfold rowIf in omega arith) refl
+    (λ x. unfold SomeOutside in x)))
     (λ t. close-after N s (startOf s) [] (0 ∷ []) (pos (suc n)) refl refl 0 (omega arith) (omega arith) 8 refl (inl refl)
+    (cause-first s (pos (suc n)) (inr (omega (int, leb-false (suc n) mostPoints t))))
     (closed-first s (pos (suc n)) (λ E k e. let x : suc n ≡ length E = cc in omega (arith, leb-false (suc n) mostPoints t))))
 
 -- ---- a later answer
@@ -337,14 +372,33 @@ module _ (N : ℕ → List Row → List ℤ → Option (List Row)) (right : Righ
         in-time = λ k j qs m e.
             let same : take k (zs ++ (z ∷ [])) ≡ take k zs = take-append-le k zs (z ∷ []) (omega (arith, one-more zs z)) in
             rw same (going-fits s r zs ps i g k j qs (omega (arith, one-more zs z)) (rw same at e));
+        at-once = λ k m o.
+            going-in s r zs ps i g
+            (limits-take k zs (subst OutOfLimits (take-append-le k zs (z ∷ []) (omega (arith, one-more zs z))) o));
       }
 
   -- 9: no query is larger than the number of points
-  nine : r .n < natAbs z → Closed s (zs ++ (z ∷ [])) ps
+  nine : limitOf r < natAbs z → Closed s (zs ++ (z ∷ [])) ps
   nine h =
       closed-going λ t.
       let (α, e) = fits-last s (t .0) ps zs z (t .2) in
-      omega (arith, holds (t .0) (t .2), query-small s α (t .0), ap natAbs e)
+      omega (arith, holds (t .0) (t .2), query-small s α (t .0), ap natAbs e, t .1 .held)
+
+  small : r .n ≤ mostPoints
+  small =
+      omega (
+        arith,
+        few,
+        fits-first i _ (g .asked) (g .before) (r .n) (g .later-answers) (F .later-products) (g .first-answer) (F .first-product) (F .fits),
+      )
+
+  cause-9 : limitOf r < natAbs z → Cause s 9 (zs ++ (z ∷ [])) ps
+  cause-9 h =
+      by-later refl (first-in (r .n) (g .later-answers ++ ws) (zs ++ (z ∷ [])) starts small)
+      (r .n, g .later-answers ++ ws, starts, one-outside (r .n) (g .later-answers) (r .answers) z h)
+
+  in-limits : natAbs z ≤ limitOf r → SomeOutside (r .n) (g .later-answers ++ ws) → ⊥
+  in-limits h = one-within (r .n) (g .later-answers) (r .answers) z (g .within) h
 
   -- the next product of the record is that of the round
   next-product : length ws < length Q → roundProduct i (r .products) (length ws) ≡ getD Q (length ws) 0
@@ -355,9 +409,9 @@ module _ (N : ℕ → List Row → List ℤ → Option (List Row)) (right : Righ
   twice = ap (λ (A : List ℕ). 2 * length A) (g .adapted-list) ∙ sym (round-twice i (patterns (r .rows)))
 
   -- the round goes on
-  on-after : length ws < length Q → After s zs ps z (roundStep N r i ws true)
+  on-after : length ws < length Q → natAbs z ≤ limitOf r → After s zs ps z (roundStep N r i ws true)
   unfolding heard asks Proper
-  on-after h =
+  on-after h l =
       record {
         inv = record {
           polys = polys;
@@ -380,15 +434,17 @@ module _ (N : ℕ → List Row → List ℤ → Option (List Row)) (right : Righ
             adapted-list = g .adapted-list;
             later-answers = g .later-answers;
             first-answer = g .first-answer;
+            within = in-limits l;
           };
         };
         phase = refl;
         proper = tt;
+        cause = λ m e. let x : _≡_ {A = ℕ} 0 1 = cc in absurd (omega arith);
       }
 
   -- ---- the round has ended
 
-  module _ (full : length ws ≡ length Q) where
+  module _ (full : length ws ≡ length Q) (l : natAbs z ≤ limitOf r) where
     whole : ps ≡ g .asked ++ Q
     whole =
         g .products ∙ ap (λ (l : List ℕ). g .asked ++ l)
@@ -400,6 +456,29 @@ module _ (N : ℕ → List Row → List ℤ → Option (List Row)) (right : Righ
         closed-going λ t.
         right .missing i (r .rows) ws (rowsOf (3 ^ suc i) (counts (restrict (suc i) (t .0)))) (F .rows) few full e
         (oracle-next i (g .before) ws (g .asked) (r .rows) F full s (t .0) (g .in-range) (t .1 .below) (rw (whole, all-answers) at (t .2)))
+
+    -- rows that give every answer so far are an oracle that fits, of i + 1 polynomials
+    cause-10 : N i (r .rows) ws ≡ none → Cause s 10 (zs ++ (z ∷ [])) ps
+    cause-10 e =
+        by-counts refl (
+          i,
+          g .in-range,
+          record {
+            before = g .before;
+            now = ws;
+            asked = g .asked;
+            rows = r .rows;
+            after = g .determined;
+            answers = all-answers;
+            products = whole;
+            all = full;
+          },
+          λ R c.
+              right .missing i (r .rows) ws (rowsOf (3 ^ suc i) (counts (restrict (suc i) (repeated R)))) (F .rows) few full e
+              (oracle-next i (g .before) ws (g .asked) (r .rows) F full (suc i) (repeated R) (omega arith)
+              (points-below (3 ^ suc i) R (c .rows .below)) (rw (whole, all-answers) at (c .give))),
+        )
+        (λ o. in-limits l (later-from (r .n) (g .later-answers ++ ws) (zs ++ (z ∷ [])) starts o))
 
     next : (R : List Row) → N i (r .rows) ws ≡ some R → Determined (suc i) (zs ++ (z ∷ [])) ps R
     next R e =
@@ -424,7 +503,7 @@ module _ (N : ℕ → List Row → List ℤ → Option (List Row)) (right : Righ
         omega (arith, more-rows i (g .before ++ ws) (g .asked ++ Q) R a c F, round-length i (r .rows) (F .rows), g .unfinished)
 
     end-after : (o : Option (List Row)) → N i (r .rows) ws ≡ o → After s zs ps z (endRound N r i o)
-    end-after none e = close-after N s r zs ps z polys count (suc i) (g .in-range) short 10 in-round (inr (inr refl)) (ten e)
+    end-after none e = close-after N s r zs ps z polys count (suc i) (g .in-range) short 10 in-round (inr (inr refl)) (cause-10 e) (ten e)
     end-after (some R) e = go (eqb (suc i) (r .polynomials)) refl
       where
         go : (b : Bool) → eqb (suc i) (r .polynomials) ≡ b → After s zs ps z (ended N r (suc i) (r .n) R b)
@@ -434,22 +513,22 @@ module _ (N : ℕ → List Row → List ℤ → Option (List Row)) (right : Righ
             (subst (λ (x : ℕ). Determined x (zs ++ (z ∷ [])) ps R) same (next R e))
         go false t =
             begin-after N s r zs ps z polys count (suc i) (g .in-range) short (r .n) R (g .later-answers ++ ws) (next R e)
-            (omega (arith, g .in-range, polys, differ)) (still-rows R e) starts
+            (omega (arith, g .in-range, polys, differ)) (still-rows R e) starts (in-limits l)
           where
             differ : suc i ≢ r .polynomials
             differ = eqb-false (suc i) (r .polynomials) t
 
   later-after : After s zs ps z (laterAnswer N r i z)
   later-after =
-      cond-after s zs ps z _ _ (leb (natAbs z) (r .n))
-      (λ t. go (ltb (length ws) (2 * length (r .products))) refl)
+      cond-after s zs ps z _ _ (leb (natAbs z) (limitOf r))
+      (λ t. go (leb-true (natAbs z) (limitOf r) t) (ltb (length ws) (2 * length (r .products))) refl)
       (λ t. close-after N s r zs ps z polys count (suc i) (g .in-range) short 9 in-round (inr (inl refl))
-      (nine (leb-false (natAbs z) (r .n) t)))
+      (cause-9 (leb-false (natAbs z) (limitOf r) t)) (nine (leb-false (natAbs z) (limitOf r) t)))
     where
-      go : (b : Bool) → ltb (length ws) (2 * length (r .products)) ≡ b → After s zs ps z (roundStep N r i ws b)
-      go true t = on-after (omega (arith, ltb-true (length ws) (2 * length (r .products)) t, twice))
-      go false t =
-          end-after (omega (arith, ltb-false (length ws) (2 * length (r .products)) t, twice, g .unfinished, one-more (r .answers) z))
+      go : natAbs z ≤ limitOf r → (b : Bool) → ltb (length ws) (2 * length (r .products)) ≡ b → After s zs ps z (roundStep N r i ws b)
+      go l true t = on-after (omega (arith, ltb-true (length ws) (2 * length (r .products)) t, twice)) l
+      go l false t =
+          end-after (omega (arith, ltb-false (length ws) (2 * length (r .products)) t, twice, g .unfinished, one-more (r .answers) z)) l
           (N i (r .rows) ws) refl
 
 -- ---- any answer

@@ -2,10 +2,12 @@ pub mod Held
 pub mod Ends
 pub mod Steps
 pub mod Phases
+pub mod Causes
 pub mod Invariant
 pub mod Story
 pub mod DemandThree
 pub mod Reached
+pub mod Sets
 pub mod Chains
 pub mod Truthful
 pub mod Refusals

@@ -14,7 +14,7 @@ use Rattle.refusals.specs.Limits.{mostPoints}
 use Rattle.rounds.specs.Rows.{Row, rowIf}
 use Rattle.runs.specs.Run.{Step, ask, done, refused, Fetch, row, noRow, Copied, copied, notCopied, Copy, kept, Phase, running}
 use Rattle.runs.specs.Run.{finished, closed, State, close, ended, endRound, roundStep, firstAnswer, laterAnswer, inRound, inPhase}
-use Rattle.runs.specs.Run.{answerOf, fetchRule, fetchOf, copyRule, copyOf}
+use Rattle.runs.specs.Run.{limitOf, answerOf, fetchRule, fetchOf, copyRule, copyOf}
 use Rattle.runs.specs.Refusals.{OutOfFirst, Shut, Refusals}
 use Rattle.runs.proofs.Phases.{running-not-finished, closed-not-finished, finished-not-running, closed-not-running}
 
@@ -28,8 +28,8 @@ module _ (N : ℕ → List Row → List ℤ → Option (List Row)) where
   data Why (r : State) (z : ℤ) (k : ℕ) (r′ : State) : Type 0 where
     why-7 : k ≡ 7 → r .phase ≢ running → Why r z k r′
     why-8 : k ≡ 8 → r .phase ≡ running → r .round ≡ 0 → OutOfFirst z → Shut r r′ → Why r z k r′
-    why-9 : k ≡ 9 → r .phase ≡ running → 0 < r .round → r .n < natAbs z → Shut r r′ → Why r z k r′
-    why-10 : k ≡ 10 → r .phase ≡ running → (i : ℕ) → r .round ≡ suc i → natAbs z ≤ r .n
+    why-9 : k ≡ 9 → r .phase ≡ running → 0 < r .round → limitOf r < natAbs z → Shut r r′ → Why r z k r′
+    why-10 : k ≡ 10 → r .phase ≡ running → (i : ℕ) → r .round ≡ suc i → natAbs z ≤ limitOf r
         → 2 * length (r .products) ≤ suc (length (r .answers))
         → N i (r .rows) (r .answers ++ (z ∷ [])) ≡ none → Shut r r′ → Why r z k r′
 
@@ -51,24 +51,24 @@ module _ (N : ℕ → List Row → List ℤ → Option (List Row)) where
 
   later-why : (r : State) (z : ℤ) (k i : ℕ) → r .phase ≡ running → r .round ≡ suc i → laterAnswer N r i z .1 ≡ refused k
       → Why r z k (laterAnswer N r i z .0)
-  later-why r z k i p q e = go (leb (natAbs z) (r .n)) refl (ltb (length ws) (2 * length (r .products))) refl e
+  later-why r z k i p q e = go (leb (natAbs z) (limitOf r)) refl (ltb (length ws) (2 * length (r .products))) refl e
     where
       ws : List ℤ
       ws = r .answers ++ (z ∷ [])
 
-      end : natAbs z ≤ r .n → 2 * length (r .products) ≤ length ws → (o : Option (List Row)) → N i (r .rows) ws ≡ o
+      end : natAbs z ≤ limitOf r → 2 * length (r .products) ≤ length ws → (o : Option (List Row)) → N i (r .rows) ws ≡ o
           → endRound N r i o .1 ≡ refused k → Why r z k (endRound N r i o .0)
       end h l none m e =
           why-10 (same-number 10 k e) p i q h (omega (arith, l, length-append (r .answers) (z ∷ []))) m (refl, refl, refl)
       end h l (some R) m e = absurd (ended-goes r (suc i) (r .n) R (eqb (suc i) (r .polynomials)) k e)
 
-      go : (b : Bool) → leb (natAbs z) (r .n) ≡ b → (c : Bool) → ltb (length ws) (2 * length (r .products)) ≡ c
+      go : (b : Bool) → leb (natAbs z) (limitOf r) ≡ b → (c : Bool) → ltb (length ws) (2 * length (r .products)) ≡ c
           → cond b (roundStep N r i ws c) (close N r 9) .1 ≡ refused k → Why r z k (cond b (roundStep N r i ws c) (close N r 9) .0)
       go true t true u e = let x : _≡_ {A = ℕ} 0 1 = cc in absurd (omega arith)
       go true t false u e =
-          end (leb-true (natAbs z) (r .n) t) (omega (arith, ltb-false (length ws) (2 * length (r .products)) u)) (N i (r .rows) ws) refl e
+          end (leb-true (natAbs z) (limitOf r) t) (omega (arith, ltb-false (length ws) (2 * length (r .products)) u)) (N i (r .rows) ws) refl e
       go false t c u e =
-          why-9 (same-number 9 k e) p (omega (arith, q)) (leb-false (natAbs z) (r .n) t) (refl, refl, refl)
+          why-9 (same-number 9 k e) p (omega (arith, q)) (leb-false (natAbs z) (limitOf r) t) (refl, refl, refl)
 
   why : (r : State) (z : ℤ) (k : ℕ) → answerOf N r z .1 ≡ refused k → Why r z k (answerOf N r z .0)
   unfolding answerOf
@@ -106,18 +106,18 @@ module _ (N : ℕ → List Row → List ℤ → Option (List Row)) where
       go true t = absurd (h n (leb-true n mostPoints t) refl)
       go false t = refl
 
-  answer-9-back : (r : State) (z : ℤ) (m : ℕ) → r .phase ≡ running → r .round ≡ m → 0 < m → r .n < natAbs z → answerOf N r z .1 ≡ refused 9
+  answer-9-back : (r : State) (z : ℤ) (m : ℕ) → r .phase ≡ running → r .round ≡ m → 0 < m → limitOf r < natAbs z → answerOf N r z .1 ≡ refused 9
   answer-9-back r z zero p q h l = absurd (omega arith)
   answer-9-back r z (suc i) p q h l =
-      ap (λ (o : State × Step). o .1) (in-round r z (suc i) p q) ∙ (rw (lt-leb (natAbs z) (r .n) l) refl)
+      ap (λ (o : State × Step). o .1) (in-round r z (suc i) p q) ∙ (rw (lt-leb (natAbs z) (limitOf r) l) refl)
 
-  answer-10-back : (r : State) (z : ℤ) (i : ℕ) → r .phase ≡ running → r .round ≡ suc i → natAbs z ≤ r .n
+  answer-10-back : (r : State) (z : ℤ) (i : ℕ) → r .phase ≡ running → r .round ≡ suc i → natAbs z ≤ limitOf r
       → 2 * length (r .products) ≤ suc (length (r .answers)) → N i (r .rows) (r .answers ++ (z ∷ [])) ≡ none → answerOf N r z .1
       ≡ refused 10
   answer-10-back r z i p q h l e =
       ap (λ (o : State × Step). o .1) (in-round r z (suc i) p q)
       ∙ (rw (
-        le-leb (natAbs z) (r .n) h,
+        le-leb (natAbs z) (limitOf r) h,
         le-ltb (length (r .answers ++ (z ∷ []))) (2 * length (r .products)) (omega (arith, l, length-append (r .answers) (z ∷ []))),
         e,
       )
@@ -220,14 +220,14 @@ module _ (N : ℕ → List Row → List ℤ → Option (List Row)) (r : State) (
   causes-8 (why-9 e p q o c) = absurd (omega (arith, e))
   causes-8 (why-10 e p i q o l m c) = absurd (omega (arith, e))
 
-  causes-9 : Why N r z 9 (answerOf N r z .0) → (r .phase ≡ running) × (0 < r .round) × (r .n < natAbs z)
+  causes-9 : Why N r z 9 (answerOf N r z .0) → (r .phase ≡ running) × (0 < r .round) × (limitOf r < natAbs z)
   causes-9 (why-7 e p) = absurd (omega (arith, e))
   causes-9 (why-8 e p q o c) = absurd (omega (arith, e))
   causes-9 (why-9 e p q o c) = (p, q, o)
   causes-9 (why-10 e p i q o l m c) = absurd (omega (arith, e))
 
   causes-10 : Why N r z 10 (answerOf N r z .0)
-      → (r .phase ≡ running) × (i : ℕ) × (r .round ≡ suc i) × (natAbs z ≤ r .n) × (2 * length (r .products) ≤ suc (length (r .answers)))
+      → (r .phase ≡ running) × (i : ℕ) × (r .round ≡ suc i) × (natAbs z ≤ limitOf r) × (2 * length (r .products) ≤ suc (length (r .answers)))
       × (N i (r .rows) (r .answers ++ (z ∷ [])) ≡ none)
   causes-10 (why-7 e p) = absurd (omega (arith, e))
   causes-10 (why-8 e p q o c) = absurd (omega (arith, e))

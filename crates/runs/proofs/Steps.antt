@@ -14,7 +14,7 @@ use Rattle.refusals.specs.Numbers.{late, badFirst, badLater, noCounts}
 use Rattle.integers.proofs.Parts.{int}
 use Rattle.rounds.specs.Rows.{Row, rowIf}
 use Rattle.runs.specs.Run.{State, Phase, running, finished, closed, Step, refused, close, ended, endRound, roundStep, firstAnswer}
-use Rattle.runs.specs.Run.{laterAnswer, inRound, inPhase, answerOf}
+use Rattle.runs.specs.Run.{limitOf, laterAnswer, inRound, inPhase, answerOf}
 
 module _ (N : ℕ → List Row → List ℤ → Option (List Row)) (r : State) where
   pub first-below : (z : ℤ) → z <ℤ pos 0 → firstAnswer N r z ≡ close N r badFirst
@@ -29,16 +29,16 @@ module _ (N : ℕ → List Row → List ℤ → Option (List Row)) (r : State) w
   first-some (pos n) g h = rw (le-leb n 64 h) refl
   first-some (negsuc n) g h = absurd (omega (int, g))
 
-  pub later-out : (i : ℕ) (z : ℤ) → r .n < natAbs z → laterAnswer N r i z ≡ close N r badLater
-  later-out i z h = rw (lt-leb (natAbs z) (r .n) h) refl
+  pub later-out : (i : ℕ) (z : ℤ) → limitOf r < natAbs z → laterAnswer N r i z ≡ close N r badLater
+  later-out i z h = rw (lt-leb (natAbs z) (limitOf r) h) refl
 
-  pub later-on : (i : ℕ) (z : ℤ) → natAbs z ≤ r .n → length (r .answers ++ (z ∷ [])) < 2 * length (r .products)
+  pub later-on : (i : ℕ) (z : ℤ) → natAbs z ≤ limitOf r → length (r .answers ++ (z ∷ [])) < 2 * length (r .products)
       → laterAnswer N r i z ≡ roundStep N r i (r .answers ++ (z ∷ [])) true
-  later-on i z h k = rw (le-leb (natAbs z) (r .n) h, lt-ltb (length (r .answers ++ (z ∷ []))) (2 * length (r .products)) k) refl
+  later-on i z h k = rw (le-leb (natAbs z) (limitOf r) h, lt-ltb (length (r .answers ++ (z ∷ []))) (2 * length (r .products)) k) refl
 
-  pub later-end : (i : ℕ) (z : ℤ) → natAbs z ≤ r .n → 2 * length (r .products) ≤ length (r .answers ++ (z ∷ []))
+  pub later-end : (i : ℕ) (z : ℤ) → natAbs z ≤ limitOf r → 2 * length (r .products) ≤ length (r .answers ++ (z ∷ []))
       → laterAnswer N r i z ≡ roundStep N r i (r .answers ++ (z ∷ [])) false
-  later-end i z h k = rw (le-leb (natAbs z) (r .n) h, le-ltb (length (r .answers ++ (z ∷ []))) (2 * length (r .products)) k) refl
+  later-end i z h k = rw (le-leb (natAbs z) (limitOf r) h, le-ltb (length (r .answers ++ (z ∷ []))) (2 * length (r .products)) k) refl
 
   -- round i's answer, i at least 1
   in-round : (i : ℕ) (z : ℤ) → 0 < i → inRound N r i z ≡ laterAnswer N r (i - 1) z
@@ -90,7 +90,7 @@ module _ (N : ℕ → List Row → List ℤ → Option (List Row)) (r : State) w
   not-late-on i ws false e = not-late-end i (N i (r .rows) ws) e
 
   not-late-later : (i : ℕ) (z : ℤ) → NotLate (laterAnswer N r i z)
-  not-late-later i z = go (leb (natAbs z) (r .n))
+  not-late-later i z = go (leb (natAbs z) (limitOf r))
     where
       go : (b : Bool) → NotLate
           (cond b (roundStep N r i (r .answers ++ (z ∷ [])) (ltb (length (r .answers ++ (z ∷ []))) (2 * length (r .products))))

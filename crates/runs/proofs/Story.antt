@@ -11,12 +11,14 @@ use lib.IntN.{ℤ}
 use lib.Dec.{leb}
 use lib.ListN.{length, getD, drop}
 use Rattle.runs.specs.Demand.{Call, answer, fetch, copy, Event, answered, fetched, copiedTo, stateAfter, events, heard, phaseOf}
-use Rattle.runs.specs.Demand.{takes, taken, asks, given, Proper, Orderly, FetchedFrom, Written, Refused, CopiedFrom, Served, NoRows}
+use Rattle.runs.specs.Demand.{numbers, closedBy, takes, taken, asks, given, Proper, Orderly, FetchedFrom, Written, Refused, CopiedFrom, Served, NoRows}
 use Rattle.rounds.specs.NextRows.{RightRows}
 use Rattle.rounds.specs.Rows.{Row, IsAt}
-use Rattle.runs.specs.Run.{Step, refused, Phase, running, finished, closed, fetchRule, copied, kept, copyRule, State, inPhase}
+use Rattle.runs.specs.Run.{Step, ask, done, refused, Phase, running, finished, closed, fetchRule, copied, kept, copyRule, State, inPhase}
 use Rattle.runs.specs.Run.{answerOf, fetchOf, copyOf}
 use Rattle.rounds.proofs.Realized.{at-head, at-tail}
+use Rattle.runs.proofs.Phases.{running-not-closed, finished-not-closed}
+use Rattle.runs.proofs.Causes.{Cause}
 use Rattle.runs.proofs.Invariant.{Inv, After, answer-running}
 
 -- from the phase f, the rows R, the answers zs and the products ps, the events t lead to the record `end`
@@ -26,19 +28,65 @@ pub record Story (s : ℕ) (f : Phase) (R : List Row) (zs : List ℤ) (ps : List
   pub orderly : Orderly f t
   pub stays : f ≡ finished → (end .phase ≡ finished) × (end .rows ≡ R)
   pub served : (K : List Row) → (end .phase ≡ finished → end .rows ≡ K) → Served f K t
+  -- the number that closed the run has its cause, and a run that is closed has such a number
+  pub cause : (k : ℕ) → closedBy f t ≡ k ∷ [] → Cause s k (zs ++ taken f t) (ps ++ given f t)
+  pub number : f ≡ running → end .phase ≡ closed → (k : ℕ) × (closedBy f t ≡ k ∷ [])
+
+-- after the end no answer is taken
+closed-quiet : (t : List Event) → (closedBy closed t ≡ []) × (taken closed t ≡ []) × (given closed t ≡ [])
+unfolding closedBy taken given takes heard
+closed-quiet [] = (refl, refl, refl)
+closed-quiet (answered z x ∷ t) = closed-quiet t
+closed-quiet (fetched p x ∷ t) = closed-quiet t
+closed-quiet (copiedTo a b x ∷ t) = closed-quiet t
 
 no-calls : (s : ℕ) (r : State) (zs : List ℤ) (ps : List ℕ) → Inv s r zs ps → Story s (r .phase) (r .rows) zs ps [] r
-unfolding taken given phaseOf Orderly Served
+unfolding taken given phaseOf Orderly Served closedBy
 no-calls s r zs ps inv =
-    record { inv = rw (append-nil zs, append-nil ps) inv; phase = refl; orderly = tt; stays = λ e. (e, refl); served = λ K k. tt }
+    record {
+      inv = rw (append-nil zs, append-nil ps) inv;
+      phase = refl;
+      orderly = tt;
+      stays = λ e. (e, refl);
+      served = λ K k. tt;
+      cause = λ k e. absurd (omega (arith, ap length e));
+      number = λ e k. absurd (running-not-closed (sym e ∙ k));
+    }
 
 -- ---- one event more
 
+-- the number of an answer taken, or of the calls after it
+taken-cause : (s : ℕ) (R′ : List Row) (zs : List ℤ) (ps : List ℕ) (t : List Event) (end : State) (z : ℤ) (x : Step) (f : Phase) → heard running x ≡ f → ((k : ℕ) → x ≡ refused k → Cause s k (zs ++ (z ∷ [])) ps)
+    → Story s f R′ (zs ++ (z ∷ [])) (ps ++ asks x) t end → (k : ℕ) → numbers x ++ closedBy f t ≡ k ∷ []
+    → Cause s k (zs ++ (z ∷ taken f t)) (ps ++ (asks x ++ given f t))
+unfolding numbers heard asks
+taken-cause s R′ zs ps t end z (ask α) f e w S k m =
+    rw (← append-assoc zs (z ∷ []) (taken f t), ← append-assoc ps (α ∷ []) (given f t)) (S .cause k m)
+taken-cause s R′ zs ps t end z done f e w S k m =
+    rw (← append-assoc zs (z ∷ []) (taken f t), ← append-assoc ps [] (given f t)) (S .cause k m)
+taken-cause s R′ zs ps t end z (refused j) f e w S k m =
+    let q = closed-quiet t in
+    let a : taken f t ≡ [] = ap (λ (g : Phase). taken g t) (sym e) ∙ q .1 in
+    let b : given f t ≡ [] = ap (λ (g : Phase). given g t) (sym e) ∙ q .2 in
+    let c : j ≡ k = cc in
+    rw (a, b, append-nil ps) (w k (ap refused c))
+
+taken-number : (s : ℕ) (R′ : List Row) (zs : List ℤ) (ps : List ℕ) (t : List Event) (end : State) (z : ℤ) (x : Step) (f : Phase) → heard running x ≡ f → Story s f R′ (zs ++ (z ∷ [])) (ps ++ asks x) t end → end .phase ≡ closed
+    → (k : ℕ) × (numbers x ++ closedBy f t ≡ k ∷ [])
+unfolding numbers heard
+taken-number s R′ zs ps t end z (ask α) f e S m = S .number (sym e) m
+taken-number s R′ zs ps t end z done f e S m = absurd (finished-not-closed (sym (S .stays (sym e) .0) ∙ m))
+taken-number s R′ zs ps t end z (refused j) f e S m = (
+  j,
+  ap (λ (l : List ℕ). j ∷ l) (ap (λ (g : Phase). closedBy g t) (sym e) ∙ closed-quiet t .0),
+)
+
 after-taken : (s : ℕ) (R R′ : List Row) (zs : List ℤ) (ps : List ℕ) (t : List Event) (end : State) (z : ℤ) (x : Step) (f : Phase)
-    → heard running x ≡ f → Proper running x → Story s f R′ (zs ++ (z ∷ [])) (ps ++ asks x) t end
+    → heard running x ≡ f → Proper running x → ((k : ℕ) → x ≡ refused k → Cause s k (zs ++ (z ∷ [])) ps)
+    → Story s f R′ (zs ++ (z ∷ [])) (ps ++ asks x) t end
     → Story s running R zs ps (answered z x ∷ t) end
-unfolding taken given phaseOf Orderly Served takes
-after-taken s R R′ zs ps t end z x f e p S =
+unfolding taken given phaseOf Orderly Served takes closedBy
+after-taken s R R′ zs ps t end z x f e p w S =
     record {
       inv =
           rw (e, ← append-assoc zs (z ∷ []) (taken f t), ← append-assoc ps (asks x) (given f t)) (S .inv);
@@ -46,6 +94,8 @@ after-taken s R R′ zs ps t end z x f e p S =
       orderly = (p, rw e (S .orderly));
       stays = λ k. absurd (no-phase k);
       served = λ K k. rw e (S .served K k);
+      cause = λ k m. rw e (taken-cause s R′ zs ps t end z x f e w S k (rw e at m));
+      number = λ _ m. rw e (taken-number s R′ zs ps t end z x f e S m);
     }
   where
     no-phase : running ≡ finished → ⊥
@@ -53,12 +103,28 @@ after-taken s R R′ zs ps t end z x f e p S =
 
 after-late : (s : ℕ) (f : Phase) (R : List Row) (zs : List ℤ) (ps : List ℕ) (t : List Event) (end : State) (z : ℤ) → (f ≡ running → ⊥)
     → Story s f R zs ps t end → Story s f R zs ps (answered z (refused 7) ∷ t) end
-unfolding taken given phaseOf Orderly Served takes heard Proper
+unfolding taken given phaseOf Orderly Served takes heard Proper closedBy
 after-late s running R zs ps t end z h S = absurd (h refl)
 after-late s finished R zs ps t end z h S =
-    record { inv = S .inv; phase = S .phase; orderly = (refl, S .orderly); stays = S .stays; served = S .served }
+    record {
+      inv = S .inv;
+      phase = S .phase;
+      orderly = (refl, S .orderly);
+      stays = S .stays;
+      served = S .served;
+      cause = S .cause;
+      number = S .number;
+    }
 after-late s closed R zs ps t end z h S =
-    record { inv = S .inv; phase = S .phase; orderly = (refl, S .orderly); stays = S .stays; served = S .served }
+    record {
+      inv = S .inv;
+      phase = S .phase;
+      orderly = (refl, S .orderly);
+      stays = S .stays;
+      served = S .served;
+      cause = S .cause;
+      number = S .number;
+    }
 
 -- ---- one fetch and one copy more
 
@@ -145,7 +211,7 @@ copy-served closed R K a b t h S = ((refl, refl, refl), S)
 
 after-fetch : (s : ℕ) (f : Phase) (R : List Row) (zs : List ℤ) (ps : List ℕ) (t : List Event) (end : State) (p : ℕ)
     → Story s f R zs ps t end → Story s f R zs ps (fetched p (fetchRule f R p) ∷ t) end
-unfolding taken given phaseOf Orderly
+unfolding taken given phaseOf Orderly closedBy
 after-fetch s f R zs ps t end p S =
     record {
       inv = S .inv;
@@ -153,11 +219,13 @@ after-fetch s f R zs ps t end p S =
       orderly = S .orderly;
       stays = S .stays;
       served = λ K k. fetch-served f R K p t (λ e. sym (S .stays e .1) ∙ k (S .stays e .0)) (S .served K k);
+      cause = S .cause;
+      number = S .number;
     }
 
 after-copy : (s : ℕ) (f : Phase) (R : List Row) (zs : List ℤ) (ps : List ℕ) (t : List Event) (end : State) (a b : List ℕ)
     → Story s f R zs ps t end → Story s f R zs ps (copiedTo a b (copyRule f R a b) ∷ t) end
-unfolding taken given phaseOf Orderly
+unfolding taken given phaseOf Orderly closedBy
 after-copy s f R zs ps t end a b S =
     record {
       inv = S .inv;
@@ -165,6 +233,8 @@ after-copy s f R zs ps t end a b S =
       orderly = S .orderly;
       stays = S .stays;
       served = λ K k. copy-served f R K a b t (λ e. sym (S .stays e .1) ∙ k (S .stays e .0)) (S .served K k);
+      cause = S .cause;
+      number = S .number;
     }
 
 -- a run that is not done at the end served no row
@@ -214,7 +284,7 @@ module _ (N : ℕ → List Row → List ℤ → Option (List Row)) (right : Righ
       let A : After s zs ps z (answerOf N r z) = answer-running N right s r zs ps z h inv e in
       after-taken s (r .rows) (answerOf N r z .0 .rows) zs ps (events N (answerOf N r z .0) cs) (stateAfter N (answerOf N r z .0) cs) z
       (answerOf N r z .1)
-      (answerOf N r z .0 .phase) (A .phase) (A .proper) (ih (answerOf N r z .0) (zs ++ (z ∷ [])) (ps ++ asks (answerOf N r z .1)) (A .inv))
+      (answerOf N r z .0 .phase) (A .phase) (A .proper) (A .cause) (ih (answerOf N r z .0) (zs ++ (z ∷ [])) (ps ++ asks (answerOf N r z .1)) (A .inv))
 
   answer-call : (z : ℤ) (cs : List Call) → Goes cs → (r : State) (zs : List ℤ) (ps : List ℕ) → Inv s r zs ps
       → Story s (r .phase) (r .rows) zs ps (answered z (answerOf N r z .1) ∷ events N (answerOf N r z .0) cs)

@@ -12,20 +12,28 @@
 --                         slices of at least r writes them all in order"; before that and on a closed run no row is fetched or copied
 --   NoRows t           == no row is fetched or copied
 --   SomeFits s ps zs   == some oracle for s polynomials fits the answers zs to the products ps
+--   closedBy f t       == the refusal number that an answer taken gave, alone in a list; empty where no answer taken was refused
+--   Outside n z        == z is outside −n .. n
+--   FirstOut zs        == the first of the answers zs is below 0 or above 64
+--   LaterOut zs        == one of the answers zs after the first is outside −n .. n, n being the first
+--   NoCounts s zs ps   == a round has just ended, and "the whole numbers, 0 or more, on those rows each extended by the three signs of Pi,
+--                         that give every answer so far": there are none
 --   IsKey              == what demand 3 says of the key of a done run
---   Claim              == what demand 3 says of the products asked, the answers taken, the phase, the question total and the events
+--   Claim              == what demand 3 says of the start's step, the products asked, the answers taken, the phase, the question total
+--                         and the events
 use mathlib.Core.Path.{_≡_}
 use mathlib.Core.Logic.{_≢_, _⊎_, _↔_}
 use mathlib.Core.Option.{Option}
 use mathlib.Core.List.{List, [], _∷_, _++_}
 use Prim.Native.Nat.{ℕ, _+_, _*_, _<_, _≤_}
-use lib.IntN.{ℤ, pos}
+use lib.IntN.{ℤ, pos, negℤ}
+use lib.Signed.{_<ℤ_}
 use lib.ListN.{length, getD, take}
 use Rattle.refusals.specs.Limits.{mostPolynomials}
 use Rattle.signs.specs.Lists.{times}
 use Rattle.signs.specs.Lists.{total as sumBelow}
 use Rattle.rounds.specs.Rows.{Row, IsAt, Oracle, realized, IsRealized, Fits}
-use Rattle.rounds.specs.Rounds.{AtEnd, LastEnded, InOrder, RowsAfter}
+use Rattle.rounds.specs.Rounds.{Counts, Answered, Determined, AtEnd, LastEnded, InOrder, RowsAfter}
 use Rattle.rounds.specs.RoundEnd.{roundRows}
 use Rattle.runs.specs.Run.{Step, ask, done, refused, Fetch, row, noRow, Copied, copied, notCopied, Copy, Phase, running, finished}
 use Rattle.runs.specs.Run.{closed, State, startOf, answerOf, fetchOf, copyOf}
@@ -91,6 +99,17 @@ given f (answered z x ∷ t) = takes f (asks x) (given (heard f x) t)
 given f (fetched p x ∷ t) = given f t
 given f (copiedTo a b x ∷ t) = given f t
 
+unfoldable pub numbers : Step → List ℕ
+numbers (ask α) = []
+numbers done = []
+numbers (refused k) = k ∷ []
+
+unfoldable pub closedBy : Phase → List Event → List ℕ
+closedBy f [] = []
+closedBy f (answered z x ∷ t) = takes f (numbers x) (closedBy (heard f x) t)
+closedBy f (fetched p x ∷ t) = closedBy f t
+closedBy f (copiedTo a b x ∷ t) = closedBy f t
+
 -- ---- 7 after done or closed, and only then
 
 unfoldable pub Proper : Phase → Step → Type 0
@@ -145,6 +164,27 @@ NoRows (answered z x ∷ t) = NoRows t
 NoRows (fetched p x ∷ t) = (x ≡ noRow 7) × NoRows t
 NoRows (copiedTo a b x ∷ t) = Refused 7 a b x × NoRows t
 
+-- ---- which number closes, from the answers taken
+
+-- "first answer below 0 or above 64"
+abbrev pub FirstOut : List ℤ → Type 0
+FirstOut zs = (z : ℤ) × (later : List ℤ) × (zs ≡ z ∷ later) × ((z <ℤ pos 0) ⊎ (pos 64 <ℤ z))
+
+abbrev pub Outside : ℕ → ℤ → Type 0
+Outside n z = (z <ℤ negℤ (pos n)) ⊎ (pos n <ℤ z)
+
+unfoldable pub SomeOutside : ℕ → List ℤ → Type 0
+SomeOutside n [] = ⊥
+SomeOutside n (z ∷ zs) = Outside n z ⊎ SomeOutside n zs
+
+-- "a later answer outside −n .. n"
+abbrev pub LaterOut : List ℤ → Type 0
+LaterOut zs = (n : ℕ) × (later : List ℤ) × (zs ≡ pos n ∷ later) × SomeOutside n later
+
+-- "a round's answers fit no counts"
+abbrev pub NoCounts : ℕ → List ℤ → List ℕ → Type 0
+NoCounts s zs ps = (i : ℕ) × (i < s) × (a : Answered i (Determined i) zs ps) × ((R : List Row) → Counts i (a .rows) ps zs R → ⊥)
+
 -- ---- the claim
 
 abbrev pub SomeFits : ℕ → List ℕ → List ℤ → Type 0
@@ -167,8 +207,10 @@ pub record IsKey (s : ℕ) (ps : List ℕ) (zs : List ℤ) (total : ℕ) (t : Li
   -- "With s polynomials and r patterns in the key, the question total of a done run is at most 2rs+1"
   pub few : total ≤ 2 * length K * s + 1
 
--- of the products ps asked, the answers zs taken, the phase f and the question total at the end of the events t
-pub record Claim (s : ℕ) (ps : List ℕ) (zs : List ℤ) (f : Phase) (total : ℕ) (t : List Event) : Type 0 where
+-- of the step x of the start, and the products ps asked, the answers zs taken, the phase f and the question total at the end of the events t
+pub record Claim (s : ℕ) (x : Step) (ps : List ℕ) (zs : List ℤ) (f : Phase) (total : ℕ) (t : List Event) : Type 0 where
+  -- "Round 0 asks product 0"
+  pub starts : x ≡ ask 0
   -- 7 is given after done or closed, and only there
   pub orderly : Orderly running t
   -- "The first one taken answers product 0, each later one the product that the one before gave to ask"
@@ -185,6 +227,14 @@ pub record Claim (s : ℕ) (ps : List ℕ) (zs : List ℤ) (f : Phase) (total : 
   -- first m of them, k ≤ m, the run is closed, and no answer was taken after the m-th
   pub closed-by : (k m i : ℕ) (qs : List ℕ) → k ≤ m → m ≤ length zs → i ≤ s → (SomeFits s ps (take k zs) → ⊥) → AtEnd i (take m zs) qs
       → (f ≡ closed) × (length zs ≡ m)
+  -- "first answer below 0 or above 64": 8, and for nothing else
+  pub closed-by-8 : (closedBy running t ≡ 8 ∷ []) ↔ FirstOut zs
+  -- "a later answer outside −n .. n": 9, and for nothing else
+  pub closed-by-9 : (closedBy running t ≡ 9 ∷ []) ↔ LaterOut zs
+  -- "10 at a round's last answer", which is in limits, where the answers "fit no counts", and for nothing else
+  pub closed-by-10 : (closedBy running t ≡ 10 ∷ []) ↔ (NoCounts s zs ps × (LaterOut zs → ⊥))
+  -- 8 and 9 close at once: no answer was taken after one that is out of its limits
+  pub at-once : (k : ℕ) → k < length zs → FirstOut (take k zs) ⊎ LaterOut (take k zs) → ⊥
   -- "it is done exactly when its last round has ended and an examiner fits"
   pub done-when : (f ≡ finished) ↔ (LastEnded s zs × SomeFits s ps zs)
   -- the key of a done run, and the rows that it served; "before that, and on a closed run, no row is fetched or copied"
@@ -200,7 +250,7 @@ pub record Claim (s : ℕ) (ps : List ℕ) (zs : List ℤ) (f : Phase) (total : 
 -- the claim after a list of calls, for a run that ends its rounds by N
 abbrev pub ClaimFor : (ℕ → List Row → List ℤ → Option (List Row)) → ℕ → List Call → Type 0
 ClaimFor N s calls =
-    Claim s (0 ∷ given running (events N (startOf s) calls)) (taken running (events N (startOf s) calls))
+    Claim s (ask 0) (0 ∷ given running (events N (startOf s) calls)) (taken running (events N (startOf s) calls))
     (phaseOf running (events N (startOf s) calls)) (stateAfter N (startOf s) calls .total) (events N (startOf s) calls)
 
 -- DEMAND 3

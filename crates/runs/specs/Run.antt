@@ -8,6 +8,7 @@
 --   newIn f s          == a record for s polynomials in the phase f that has asked nothing
 --   afterAnswer        == the record after an answer that is taken, from its parts
 --   startOf s          == the record of a run for s polynomials before the first answer
+--   limitOf r          == the n of "a later answer outside −n .. n"
 --   roundProduct i A k == the k-th product of round i + 1, A being the adapted list of the rows before it
 --   answerOf N r z     == the record after the answer z, and the step
 --   fetchOf r p        == the row at position p
@@ -74,6 +75,10 @@ startOf s = newIn running s
 
 -- ---- an answer
 
+-- the bound of an answer after the first
+abbrev pub limitOf : State → ℕ
+limitOf r = r .n
+
 -- the k-th product of round i + 1, from 0, where A is the rows' adapted list: "every a in A with 3^i added, in order, then every a with 2 ×
 -- 3^i added"
 unfoldable pub roundProduct : ℕ → List ℕ → ℕ → ℕ
@@ -105,7 +110,7 @@ module _ (N : ℕ → List Row → List ℤ → Option (List Row)) where
 
   abbrev pub laterAnswer : State → ℕ → ℤ → State × Step
   laterAnswer r i z =
-      cond (leb (natAbs z) (r .n))
+      cond (leb (natAbs z) (limitOf r))
       (roundStep r i (r .answers ++ (z ∷ [])) (ltb (length (r .answers ++ (z ∷ []))) (2 * length (r .products))))
       (close r badLater)
 

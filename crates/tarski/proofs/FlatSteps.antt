@@ -5,26 +5,29 @@ use native.Mathlib.Omega.{arith}
 use lib.IntN.{ℤ}
 use Rattle.rounds.specs.RoundEnd.{roundRows}
 use Rattle.runs.specs.Run.{State, Step, ask, done, refused, answerOf}
-use Rattle.refusals.specs.Numbers.{late}
-use Rattle.determination.specs.Record.{stateOf, AnswerGives}
+use mathlib.Core.Bool.{true}
+use Rattle.refusals.specs.Numbers.{late, isAmong, closingNumbers}
+use Rattle.determination.specs.Record.{stateOf, IsClosed, AnswerGives}
 use Rattle.determination.specs.declared.Run.{Run}
 use Rattle.tarski.specs.declared.FlatStep.{FlatStep}
 use Rattle.tarski.specs.Flat.{flatStepOf, flatAnsweredOf, AnswerGivesFlat, keptOn}
 
--- only an answer that comes too late has the numbers of such an answer
-step-late : (x : Step) → flatStepOf x ≡ flatStepOf (refused late) → x ≡ refused late
+-- only a step that is refused has the numbers of such a step
+step-refused : (x : Step) (n : ℕ) → flatStepOf x ≡ flatStepOf (refused n) → x ≡ refused n
 unfolding flatStepOf
-step-late (ask p) e = let clash : _≡_ {A = ℕ} 0 2 = ap (λ (t : FlatStep). t .kind) e in absurd (omega arith)
-step-late done e = let clash : _≡_ {A = ℕ} 1 2 = ap (λ (t : FlatStep). t .kind) e in absurd (omega arith)
-step-late (refused k) e = ap refused (ap (λ (t : FlatStep). t .value) e)
+step-refused (ask p) n e = let clash : _≡_ {A = ℕ} 0 2 = ap (λ (t : FlatStep). t .kind) e in absurd (omega arith)
+step-refused done n e = let clash : _≡_ {A = ℕ} 1 2 = ap (λ (t : FlatStep). t .kind) e in absurd (omega arith)
+step-refused (refused k) n e = ap refused (ap (λ (t : FlatStep). t .value) e)
 
--- what an answer promises, by its plain numbers alone: they and the record are as the rules say, and with those of 7 the record is as it
--- was
+-- what an answer promises, by its plain numbers alone: they and the record are as the rules say, with those of 7 the record is as it was,
+-- and with those of 8, 9 and 10 it is a closed one
 pub flat-answer : (run run′ : Run) (a : ℤ) (t : FlatStep) → AnswerGivesFlat run a run′ t
     → ((stateOf run′, t) ≡ flatAnsweredOf (answerOf roundRows (stateOf run) a)) × (t ≡ flatStepOf (refused late) → run′ ≡ run)
+    × ((k : ℕ) → t ≡ flatStepOf (refused k) → isAmong k closingNumbers ≡ true → IsClosed run′)
 flat-answer run run′ a t (x, g, e) = (
   ap (λ (u : FlatStep). (stateOf run′, u)) e ∙ ap flatAnsweredOf (g .by-rules),
-  λ l. g .as-it-was (step-late x (sym e ∙ l)),
+  λ l. g .as-it-was (step-refused x late (sym e ∙ l)),
+  λ k l. g .closes k (step-refused x k (sym e ∙ l)),
 )
 
 -- a start that is refused has kind 2, and the record is the one before; any other gives the new one

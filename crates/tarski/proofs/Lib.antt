@@ -1,2 +1,3 @@
 pub mod FlatSteps
 pub mod Lent
+pub mod DemandThree

@@ -36,9 +36,9 @@ first-answer-requires c κs = (goes (c .before .before), c .if2 .taken)
 returns-2 : tie.Need-returns-2
 returns-2 c =
     let st = c .before .before .before .before .before in
-    let r = rw (toZ-ofZ w64 (st .args .a) (st .fits .a)) at (c .first-answer .ensures)
+    let r = rw (toZ-ofZ w64 (st .args .a) (st .fits .a)) at (c .first-answer .ensures .0)
     ∙ sym (answer-first roundRows (runningState (st .args .run)) (st .args .a) refl (c .before .if2 .taken)) in
-    running-gives (st .args .run) _ (st .args .a) _ (goes (c .before .before .before)) r
+    running-gives (st .args .run) _ (st .args .a) _ (goes (c .before .before .before)) r (c .first-answer .ensures .1)
 
 later-answer-requires : tie.Need-later-answer-requires
 later-answer-requires c κs = let h = c .if2 .left in (goes (c .before .before), omega arith)
@@ -47,9 +47,9 @@ returns-3 : tie.Need-returns-3
 returns-3 c =
     let st = c .before .before .before .before .before in
     let h = c .before .if2 .left in
-    let r = rw (toZ-ofZ w64 (st .args .a) (st .fits .a)) at (c .later-answer .ensures)
+    let r = rw (toZ-ofZ w64 (st .args .a) (st .fits .a)) at (c .later-answer .ensures .0)
     ∙ sym (answer-later roundRows (runningState (st .args .run)) (st .args .a) refl (omega arith)) in
-    running-gives (st .args .run) _ (st .args .a) _ (goes (c .before .before .before)) r
+    running-gives (st .args .run) _ (st .args .a) _ (goes (c .before .before .before)) r (c .later-answer .ensures .1)
 
 pub answer-spec : {M : Type 1} → statement M
 answer-spec =

@@ -11,7 +11,7 @@ add-run c = search needs
 
 returns : tie.Need-returns
 unfolding stateOf runPhase isRunning isDone
-returns c = rw (add-one) refl
+returns c = (rw (add-one) refl, record { phase = refl; no-rows = refl; no-answers = refl })
 
 pub close-spec : {M : Type 1} → statement M
 close-spec = tie.close (tie.spec add-run returns)

@@ -96,14 +96,14 @@ returns c =
     let f = c .before .before .before in
     let e = left-none (after st) (f .find-rows .result .next) (f .find-rows .result .patterns) (f .find-rows .result .counts) (left f)
     (c .before .enum-told .given .1) in
-    rw e (c .close .ensures)
+    (rw e (c .close .ensures .0), λ k _. c .close .ensures .1)
 
 returns-2 : tie.Need-returns-2
 returns-2 c =
     let s = got (c .before .before .before .before) in
     let e = some-held (after
     (c .before .before .before .before .before .before .before .before .before .before .before .before .before .before)) _ _ _ s in
-    rw e (c .next-round .ensures)
+    (rw e (c .next-round .ensures .0), c .next-round .ensures .1)
 
 pub end-round-spec : {M : Type 1} → statement M
 end-round-spec =

@@ -12,7 +12,7 @@ use Rattle.integers.proofs.Parts.{int}
 use Rattle.rounds.specs.RoundEnd.{roundRows}
 use Rattle.determination.specs.Record.{runningState}
 use Rattle.runs.proofs.Held.{rising-one, below-one}
-use Rattle.determination.proofs.Records.{sound-limits, sound-asked, running-phase, running-sound}
+use Rattle.determination.proofs.Records.{sound-limits, sound-asked, running-phase, running-sound, done-open, ask-open}
 use Rattle.runs.proofs.Steps.{first-below, first-above, first-some}
 use Rattle.determination.proofs.first_answer.Statement.{statement}
 use Rattle.determination.proofs.first_answer.Tie as tie
@@ -27,7 +27,7 @@ returns c =
     let st = c .before .before in
     let e = toZ-ofZ w64 (st .args .a) (st .fits .a) in
     let h : st .args .a <ℤ pos 0 = omega (int, c .before .if1 .taken) in
-    c .close .ensures ∙ sym (first-below roundRows (runningState (st .args .run)) (st .args .a) h)
+    (c .close .ensures .0 ∙ sym (first-below roundRows (runningState (st .args .run)) (st .args .a) h), λ k _. c .close .ensures .1)
 
 magnitude-requires : tie.Need-magnitude-requires
 magnitude-requires c κs = search needs
@@ -43,7 +43,8 @@ returns-2 c =
     let e = toZ-ofZ w64 (st .args .a) (st .fits .a) in
     let g : pos 0 ≤ℤ st .args .a = omega (int, c .before .before .before .if1 .left) in
     let m = rw e at (c .before .before .magnitude .ensures) in
-    c .close2 .ensures ∙ sym (first-above roundRows (runningState (st .args .run)) (st .args .a) g (omega (arith, c .before .if2 .taken)))
+    let f = first-above roundRows (runningState (st .args .run)) (st .args .a) g (omega (arith, c .before .if2 .taken)) in
+    (c .close2 .ensures .0 ∙ sym f, λ k _. c .close2 .ensures .1)
 
 first-rows-requires : tie.Need-first-rows-requires
 first-rows-requires c κs = search needs
@@ -61,7 +62,7 @@ returns-3 c =
     let m = rw e at (c .before .before .before .before .magnitude .ensures) in
     let z : natAbs (st .args .a) ≡ 0 = omega (arith, c .before .before .if3 .taken) in
     let f = first-some roundRows (runningState (st .args .run)) (st .args .a) g (omega arith) in
-    rw (f, z) (rw (c .before .first-rows .ensures .0) at (c .finish .ensures))
+    (rw (f, z) (rw (c .before .first-rows .ensures .0) at (c .finish .ensures)), done-open _ _ _ (c .finish .ensures))
 
 cast-first-rows : tie.Need-cast-first-rows
 cast-first-rows c = search needs
@@ -89,7 +90,7 @@ returns-4 c =
     let m = rw e at (c .before .before .before .before .magnitude .ensures) in
     let f = first-some roundRows (runningState (st .args .run)) (st .args .a) g (omega arith) in
     let z = ne-eqb (natAbs (st .args .a)) 0 (λ y. c .before .before .if3 .left (m ∙ y)) in
-    rw (f, z) (rw (c .before .first-rows2 .ensures .0, m) at (c .begin .ensures))
+    (rw (f, z) (rw (c .before .first-rows2 .ensures .0, m) at (c .begin .ensures)), ask-open _ _ _ _ (c .begin .ensures))
 
 pub first-answer-spec : {M : Type 1} → statement M
 first-answer-spec =

@@ -9,7 +9,7 @@ use mir.ValLaws.{toZ-ofZ}
 use Rattle.rounds.specs.RoundEnd.{roundRows}
 use Rattle.determination.specs.Record.{runningState}
 use Rattle.determination.proofs.Lengths.{lengths}
-use Rattle.determination.proofs.Records.{later-from}
+use Rattle.determination.proofs.Records.{later-from, ask-open}
 use Rattle.determination.proofs.Rounds.{stored-length}
 use Rattle.runs.proofs.Steps.{later-out, later-on, later-end}
 use Rattle.determination.proofs.later_answer.Statement.{statement}
@@ -28,7 +28,8 @@ returns : tie.Need-returns
 returns c =
     let st = c .before .before .before in
     let m = rw (toZ-ofZ w64 (st .args .a) (st .fits .a)) at (c .before .before .magnitude .ensures) in
-    c .close .ensures ∙ sym (later-out roundRows (runningState (st .args .run)) (st .args .run .round - 1) (st .args .a) (omega arith))
+    let f = later-out roundRows (runningState (st .args .run)) (st .args .run .round - 1) (st .args .a) (omega arith) in
+    (c .close .ensures .0 ∙ sym f, λ k _. c .close .ensures .1)
 
 add-if2 : tie.Need-add-if2
 add-if2 c =
@@ -53,8 +54,8 @@ returns-2 c =
     let m = rw (toZ-ofZ w64 (st .args .a) (st .fits .a)) at (c .before .before .before .magnitude .ensures) in
     let p = length-take-le (st .args .run .rows) (st .args .run .products) (omega arith) in
     let q = stored-length (st .args .run .answers) (st .args .run .answered) (st .args .a) (omega arith) in
-    rw (toZ-ofZ w64 (st .args .a) (st .fits .a)) at (c .ask-next .ensures)
-    ∙ sym (later-on roundRows (runningState (st .args .run)) (st .args .run .round - 1) (st .args .a) (omega arith) (omega arith))
+    let f = later-on roundRows (runningState (st .args .run)) (st .args .run .round - 1) (st .args .a) (omega arith) (omega arith) in
+    (rw (toZ-ofZ w64 (st .args .a) (st .fits .a)) at (c .ask-next .ensures) ∙ sym f, ask-open _ _ _ _ (c .ask-next .ensures))
 
 end-round-requires : tie.Need-end-round-requires
 end-round-requires c κs =
@@ -70,8 +71,8 @@ returns-3 c =
     let m = rw (toZ-ofZ w64 (st .args .a) (st .fits .a)) at (c .before .before .before .magnitude .ensures) in
     let p = length-take-le (st .args .run .rows) (st .args .run .products) (omega arith) in
     let q = stored-length (st .args .run .answers) (st .args .run .answered) (st .args .a) (omega arith) in
-    rw (toZ-ofZ w64 (st .args .a) (st .fits .a)) at (c .end-round .ensures)
-    ∙ sym (later-end roundRows (runningState (st .args .run)) (st .args .run .round - 1) (st .args .a) (omega arith) (omega arith))
+    let f = later-end roundRows (runningState (st .args .run)) (st .args .run .round - 1) (st .args .a) (omega arith) (omega arith) in
+    (rw (toZ-ofZ w64 (st .args .a) (st .fits .a)) at (c .end-round .ensures .0) ∙ sym f, c .end-round .ensures .1)
 
 pub later-answer-spec : {M : Type 1} → statement M
 later-answer-spec =

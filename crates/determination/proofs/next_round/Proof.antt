@@ -3,7 +3,7 @@ use mathlib.Core.Path.{_≡_}
 use Prim.Native.Nat.{_-_, suc}
 use native.Mathlib.Omega.{arith}
 use borrow.Author.Tests.{eq-eqb, ne-eqb}
-use Rattle.determination.proofs.Records.{later-from, running-phase}
+use Rattle.determination.proofs.Records.{later-from, running-phase, done-open, ask-open}
 use Rattle.determination.proofs.next_round.Statement.{statement}
 use Rattle.determination.proofs.next_round.Tie as tie
 
@@ -17,7 +17,8 @@ returns : tie.Need-returns
 returns c =
     let st = c .before .before .before in
     let e : suc (st .args .run .round - 1) ≡ st .args .run .round = omega arith in
-    rw (e, eq-eqb (st .args .run .round) (st .args .run .polynomials) (c .before .if1 .taken)) (c .finish .ensures)
+    let t = eq-eqb (st .args .run .round) (st .args .run .polynomials) (c .before .if1 .taken) in
+    (rw (e, t) (c .finish .ensures), done-open _ _ _ (c .finish .ensures))
 
 begin-requires : tie.Need-begin-requires
 begin-requires c κs =
@@ -32,7 +33,8 @@ returns-2 : tie.Need-returns-2
 returns-2 c =
     let st = c .before .before .before in
     let e : suc (st .args .run .round - 1) ≡ st .args .run .round = omega arith in
-    rw (e, ne-eqb (st .args .run .round) (st .args .run .polynomials) (c .before .if1 .left)) (c .begin .ensures)
+    let t = ne-eqb (st .args .run .round) (st .args .run .polynomials) (c .before .if1 .left) in
+    (rw (e, t) (c .begin .ensures), ask-open _ _ _ _ (c .begin .ensures))
 
 pub next-round-spec : {M : Type 1} → statement M
 next-round-spec = tie.close (tie.spec finish-requires returns begin-requires returns-2)

@@ -2,11 +2,12 @@
 use mathlib.Core.List.{[]}
 use mathlib.Core.Path.{_≡_, refl, ap}
 use Prim.Native.Nat.{ℕ}
+use native.Mathlib.Omega.{arith}
 use borrow.Author.Needs.{needs}
 use borrow.Author.Tests.{le-leb, lt-leb}
 use lib.ListN.{take}
 use Rattle.rounds.specs.Rows.{rowsWith}
-use Rattle.determination.specs.Record.{runningState, startedOf}
+use Rattle.determination.specs.Record.{closedPhase, runningState, IsClosed, startedOf}
 use Rattle.runs.specs.Run.{State, Step, ask, startOf}
 use Rattle.determination.specs.declared.Run.{Run}
 use Rattle.determination.proofs.Records.{first-sound, running-is, running-to, closed-phase}
@@ -23,6 +24,11 @@ fresh-running r s e₁ e₂ e₃ e₄ e₅ e₆ =
     let v : rowsWith (take (r .rows) (r .patterns)) (take (r .rows) (r .counts)) ≡ [] = rw p refl in
     cc
 
+fresh-closed : (r : Run) {s : ℕ}
+    → (r .polynomials ≡ s) × (r .phase ≡ closedPhase) × (r .asked ≡ 0) × (r .round ≡ 0) × (r .n ≡ 0) × (r .rows ≡ 0) × (r .answered ≡ 0)
+    → IsClosed r
+fresh-closed r k = record { phase = k .1; no-rows = k .5; no-answers = k .6 }
+
 fresh-requires : tie.Need-fresh-requires
 fresh-requires c κs = search needs
 
@@ -32,7 +38,7 @@ returns c =
     let r = c .fresh .result in
     let s = c .before .before .args .s in
     let e = closed-phase r (c .fresh .ensures .1) in
-    rw (lt-leb 1 s (c .before .if1 .taken), e) (cc)
+    record { by-rules = rw (lt-leb 1 s (c .before .if1 .taken), e) (cc); closes = λ k _. fresh-closed r (c .fresh .ensures) }
 
 fresh-requires-2 : tie.Need-fresh-requires-2
 fresh-requires-2 c κs = search needs
@@ -43,7 +49,10 @@ returns-2 c =
     let r = c .fresh2 .result in
     let s = c .before .before .before .args .s in
     let e = closed-phase r (c .fresh2 .ensures .1) in
-    rw (le-leb 1 s (c .before .before .if1 .left), lt-leb s 8 (c .before .if2 .taken), e) (cc)
+    record {
+      by-rules = rw (le-leb 1 s (c .before .before .if1 .left), lt-leb s 8 (c .before .if2 .taken), e) (cc);
+      closes = λ k _. fresh-closed r (c .fresh2 .ensures);
+    }
 
 fresh-requires-3 : tie.Need-fresh-requires-3
 fresh-requires-3 c κs = search needs
@@ -57,7 +66,11 @@ returns-3 c =
     let g = c .before .before .if1 .left in
     let h = c .before .if2 .left in
     let t = first-sound r s g h (k .0) (k .2) (k .3) (k .4) (k .5) (k .6) in
-    rw (le-leb 1 s g, le-leb s 8 h, running-is r (running-to r (k .1) t)) (fresh-running r s (k .0) (k .2) (k .3) (k .4) (k .5) (k .6))
+    record {
+      by-rules =
+          rw (le-leb 1 s g, le-leb s 8 h, running-is r (running-to r (k .1) t)) (fresh-running r s (k .0) (k .2) (k .3) (k .4) (k .5) (k .6));
+      closes = λ j e. let x : _≡_ {A = ℕ} 0 1 = cc in absurd (omega arith);
+    }
 
 pub start-spec : {M : Type 1} → statement M
 start-spec =

@@ -7,7 +7,7 @@ use Rattle.printout.proofs.begin.Tie as tie
 returns : tie.Need-returns
 returns c =
     let o = c .before .before .«open» in
-    begun _ (o .result) (c .before .start .result .run) (c .before .start .result .step) (o .ensures) (c .before .start .ensures)
+    begun _ (o .result) (c .before .start .result .run) (c .before .start .result .step) (o .ensures) (c .before .start .ensures .by-rules)
 
 pub begin-spec : {M : Type 1} → statement M
 begin-spec =

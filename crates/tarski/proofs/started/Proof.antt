@@ -13,7 +13,7 @@ returns c =
     let st = c .before .before .before .before in
     let r = stateOf (st .args .run) in (
       kept-refused r _ _ _ (c .before .before .flat-step .ensures) (c .if1 .taken) ∙ ap (λ (o : State × Step). flatAnsweredOf (keptOn r o))
-          (c .before .before .before .start .ensures),
+          (c .before .before .before .start .ensures .by-rules),
       λ _. refl,
     )
 
@@ -22,7 +22,7 @@ returns-2 c =
     let st = c .before .before .before .before .before in
     let r = stateOf (st .args .run) in (
       kept-begun r _ _ _ (c .before .before .before .flat-step .ensures) (c .before .if1 .left) ∙ ap
-          (λ (o : State × Step). flatAnsweredOf (keptOn r o)) (c .before .before .before .before .start .ensures),
+          (λ (o : State × Step). flatAnsweredOf (keptOn r o)) (c .before .before .before .before .start .ensures .by-rules),
       λ e. absurd (c .before .if1 .left (refused-kind _ _ e)),
     )
 

@@ -1,0 +1,25 @@
+-- What the plain numbers that the library's calls give stand for, in the words of the rules of a run. `Flat` goes the other way.
+--
+--   stepFrom t         == the step: kind 0 asks the product, 1 is done, any other refuses with the number
+--   fetchFrom t        == the row fetched, or the number that refuses, which is not 0
+--   copyFrom t a b     == how many rows were copied, or the number that refuses, which is not 0, and the two slices a and b as they are left
+use mathlib.Core.Bool.{cond}
+use mathlib.Core.List.{List}
+use Prim.Native.Nat.{ℕ}
+use lib.Dec.{eqb}
+use Rattle.runs.specs.Run.{Step, ask, done, refused, Fetch, row, noRow, Copied, copied, notCopied, Copy}
+use Rattle.tarski.specs.declared.FlatStep.{FlatStep}
+use Rattle.tarski.specs.declared.FlatRow.{FlatRow}
+use Rattle.tarski.specs.declared.FlatCopied.{FlatCopied}
+
+unfoldable pub stepFrom : FlatStep → Step
+stepFrom t = cond (eqb (t .kind) 0) (ask (t .value)) (cond (eqb (t .kind) 1) done (refused (t .value)))
+
+unfoldable pub fetchFrom : FlatRow → Fetch
+fetchFrom t = cond (eqb (t .refusal) 0) (row (record { pattern = t .pattern; count = t .count })) (noRow (t .refusal))
+
+unfoldable pub copiedFrom : FlatCopied → Copied
+copiedFrom t = cond (eqb (t .refusal) 0) (copied (t .rows)) (notCopied (t .refusal))
+
+abbrev pub copyFrom : FlatCopied → List ℕ → List ℕ → Copy
+copyFrom t a b = record { result = copiedFrom t; patternsLeft = a; countsLeft = b }
