@@ -102,19 +102,28 @@ fn main() {
         ("check", false) => Box::new(|| assert_eq!(plain::check(black_box(&card)), Ok((8, 64)))),
         ("query", true) => {
             let opened = signs(&opened(s, &oracle));
-            Box::new(move || assert!(opened.ask(black_box(4373)).is_ok()))
+            Box::new(move || assert!(opened.ask(black_box(tarski::Product(4373))).is_ok()))
         }
         ("query", false) => {
             let opened = opened(s, &oracle);
             Box::new(move || assert!(plain::ask(&opened, black_box(4373)).is_ok()))
         }
-        ("solve", _) => {
+        ("solve", true) => {
+            let list = patterns(s, rows, seed);
+            let numbers = queries(s, &list);
+            let list: Vec<tarski::Pattern> = list.into_iter().map(tarski::Pattern).collect();
+            let mut out = [0; 64];
+            Box::new(move || {
+                tarski::solve(s, black_box(&list), black_box(&numbers), &mut out).unwrap();
+                assert!(out[..rows].iter().all(|&c| c == 1));
+            })
+        }
+        ("solve", false) => {
             let list = patterns(s, rows, seed);
             let numbers = queries(s, &list);
             let mut out = [0; 64];
-            let solve = if proved { tarski::solve } else { plain::solve };
             Box::new(move || {
-                solve(s, black_box(&list), black_box(&numbers), &mut out).unwrap();
+                plain::solve(s, black_box(&list), black_box(&numbers), &mut out).unwrap();
                 assert!(out[..rows].iter().all(|&c| c == 1));
             })
         }

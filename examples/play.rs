@@ -4,20 +4,23 @@
 mod tarski;
 
 use std::io::Read;
-use tarski::{Run, Step};
+use tarski::{Pattern, Refusal, Run, Step, MOST_ROWS};
 
-fn play(card: &[u8]) -> Result<(), u16> {
+fn play(card: &[u8]) -> Result<(), Refusal> {
     let opened = tarski::open(card)?;
     let (mut run, mut step) = Run::start(opened.polynomials());
     while let Step::Ask(product) = step {
         let answer = opened.ask(product)?;
-        println!("Q {product} {answer}");
+        println!("Q {} {answer}", product.0);
         step = run.answer(answer);
     }
-    let mut position = 0;
-    while let Ok((pattern, count)) = run.row(position) {
-        println!("S {pattern} {count}");
-        position += 1;
+    if let Step::Refused(refusal) = step {
+        return Err(refusal);
+    }
+    let (mut patterns, mut counts) = ([Pattern(0); MOST_ROWS], [0; MOST_ROWS]);
+    let rows = run.rows(&mut patterns, &mut counts)?;
+    for k in 0..rows {
+        println!("S {} {}", patterns[k].0, counts[k]);
     }
     println!("E {}", run.asked());
     Ok(())
@@ -27,6 +30,7 @@ fn main() {
     let mut card = Vec::new();
     std::io::stdin().take(tarski::LONGEST_CARD as u64 + 1).read_to_end(&mut card).unwrap();
     if let Err(refusal) = play(&card) {
-        println!("R {refusal}");
+        println!("R {}", refusal.0);
+        eprintln!("play: {refusal}");
     }
 }

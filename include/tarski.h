@@ -1,7 +1,17 @@
-/* Sign determination from Tarski queries: the proved calls of libtarski.a.
+/* Sign determination from Tarski queries: the proved calls of libtarski.a, for C99 and later and for C++, on x86-64 Linux.
  *
- * Every call answers whatever it is given: with a result, or with a refusal number from 1 to 15 (README.md has the table); 0 means not refused.
- * A refusal leaves lent memory as it was, but for 8, 9 and 10, which close the run's record. No call allocates, blocks or keeps a pointer. */
+ * Every call answers whatever numbers it is given: with a result, or with a refusal number from 1 to 15 (enum tarski_refusal); 0 means not refused.
+ * A refusal leaves lent memory as it was, but for 8, 9 and 10, which close the run's record. No call allocates, blocks or keeps a pointer.
+ *
+ * What the caller owes, since no call can test it:
+ *   - a pointer with a length points to that many elements; NULL is allowed where the length is 0. Every other pointer points to its record. All are
+ *     aligned as their type is.
+ *   - memory that a call may write (a pointer without const) overlaps no other memory lent to the same call.
+ *   - the record lent to tarski_start need not be initialised: what it held has no effect, and a start refused by 3 leaves it as it was. Every other
+ *     call gets a record that tarski_start began, or a copy of one. Other initialised bytes do no harm, but then the answers say nothing of a run.
+ *
+ * The library has no state of its own: any number of threads may call it, each with records of its own, or with shared ones that none of them writes.
+ * A call uses at most TARSKI_MOST_STACK bytes of stack. Records and results are plain memory: they may be copied and moved. */
 #ifndef TARSKI_H
 #define TARSKI_H
 
@@ -12,11 +22,79 @@
 extern "C" {
 #endif
 
+/* The version of this header and of the library beside it. */
+#define TARSKI_VERSION_MAJOR 0
+#define TARSKI_VERSION_MINOR 1
+#define TARSKI_VERSION_PATCH 0
+#define TARSKI_VERSION "0.1.0"
+
+/* The most polynomials and the most points of a card, and the most rows of a run. */
+#define TARSKI_MOST_POLYNOMIALS 8
+#define TARSKI_MOST_POINTS 64
+#define TARSKI_MOST_ROWS 64
+/* The most questions that a run asks. */
+#define TARSKI_MOST_QUESTIONS 593
 /* The longest card, in bytes; read one byte more from a stream, or a card that is too long looks sound. */
 #define TARSKI_LONGEST_CARD 318
-/* The most rows of a run, and the most questions it asks. */
-#define TARSKI_MOST_ROWS 64
-#define TARSKI_MOST_QUESTIONS 593
+/* The most bytes of stack that a call uses, its return address included. */
+#define TARSKI_MOST_STACK 32768
+
+/* ---- refusals */
+
+enum tarski_refusal {
+    TARSKI_NOT_REFUSED = 0,
+    TARSKI_WRONG_LENGTH = 1,     /* the card is shorter or longer than it says */
+    TARSKI_WRONG_BYTE = 2,       /* byte 0 or byte 3 is wrong */
+    TARSKI_WRONG_COUNT = 3,      /* s is not 1 to 8, or n is above 64 */
+    TARSKI_WRONG_OFFSET = 4,     /* an offset is not where its body begins */
+    TARSKI_WRONG_POLYNOMIAL = 5, /* a degree, a coefficient or a top coefficient is wrong */
+    TARSKI_WRONG_POINT = 6,      /* a point is outside -100 to 100, or falls */
+    TARSKI_LATE = 7,             /* an answer after the run was done or closed; rows wanted before it is done or after it closed */
+    TARSKI_BAD_FIRST = 8,        /* the first answer is below 0 or above 64 */
+    TARSKI_BAD_LATER = 9,        /* a later answer is outside -n .. n */
+    TARSKI_NO_COUNTS = 10,       /* a round's answers fit no counts */
+    TARSKI_WRONG_LIST = 11,      /* a list does not rise, is too long or has a pattern above 3^s - 1, or there are not as many numbers */
+    TARSKI_NO_SOLUTION = 12,     /* no whole numbers with absolute values adding up to at most 64 have these queries */
+    TARSKI_WRONG_PRODUCT = 13,   /* the product number is above 3^s - 1 */
+    TARSKI_PAST_LAST = 14,       /* there is no polynomial, or no row, at this position */
+    TARSKI_TOO_SHORT = 15        /* an output slice is too short */
+};
+
+/* What a refusal number means, in words. */
+static inline const char *tarski_refusal_text(uint16_t refusal) {
+    switch (refusal) {
+    case TARSKI_NOT_REFUSED: return "not refused";
+    case TARSKI_WRONG_LENGTH: return "the card is shorter or longer than it says";
+    case TARSKI_WRONG_BYTE: return "byte 0 or byte 3 is wrong";
+    case TARSKI_WRONG_COUNT: return "s is not 1 to 8, or n is above 64";
+    case TARSKI_WRONG_OFFSET: return "an offset is not where its body begins";
+    case TARSKI_WRONG_POLYNOMIAL: return "a degree, a coefficient or a top coefficient is wrong";
+    case TARSKI_WRONG_POINT: return "a point is outside -100 to 100, or falls";
+    case TARSKI_LATE: return "an answer after the run was done or closed; rows wanted before it is done or after it closed";
+    case TARSKI_BAD_FIRST: return "the first answer is below 0 or above 64";
+    case TARSKI_BAD_LATER: return "a later answer is outside -n .. n";
+    case TARSKI_NO_COUNTS: return "a round's answers fit no counts";
+    case TARSKI_WRONG_LIST:
+        return "the solver's list does not rise, is over 64 long, has a pattern above 3^s - 1, or there are not as many numbers as patterns";
+    case TARSKI_NO_SOLUTION: return "no whole numbers with absolute values adding up to at most 64 have these queries";
+    case TARSKI_WRONG_PRODUCT: return "the product number is above 3^s - 1";
+    case TARSKI_PAST_LAST: return "there is no polynomial, or no row, at this position";
+    case TARSKI_TOO_SHORT: return "an output slice is too short";
+    default: return "no such refusal";
+    }
+}
+
+/* ---- patterns and products: two types, so that neither is taken for the other; digit j of the number to the base 3 belongs to polynomial j */
+
+/* Signs of the polynomials: 0 for the sign 0, 1 for +, 2 for -. */
+struct tarski_pattern {
+    uint16_t number;
+};
+
+/* A product of powers of the polynomials: the powers 0, 1 and 2. */
+struct tarski_product {
+    uint16_t number;
+};
 
 /* ---- cards and queries */
 
@@ -27,7 +105,7 @@ struct tarski_card {
     uint16_t refusal;
 };
 
-/* The Tarski query of a product; 0 where it is refused. */
+/* The Tarski query of a product, or the value of a polynomial; 0 where it is refused. */
 struct tarski_number {
     int64_t number;
     uint16_t refusal;
@@ -44,18 +122,23 @@ struct tarski_opened {
 
 /* Checks a card: 1 to 6 refuse it. */
 struct tarski_card tarski_check(const uint8_t *card, size_t length);
+/* The value at x of the polynomial at a position from 0: the card's number, then 14. */
+struct tarski_number tarski_value(const uint8_t *card, size_t length, size_t position, int8_t x);
 /* The query of a product on a card, in one call: the card's number, then 13. */
-struct tarski_number tarski_query(const uint8_t *card, size_t length, uint16_t product);
+struct tarski_number tarski_query(const uint8_t *card, size_t length, struct tarski_product product);
 /* Opens a card, to ask many products of it: its number stands in `refusal`. */
 struct tarski_opened tarski_open(const uint8_t *card, size_t length);
 /* The query of a product on an opened card: the card's number, then 13. */
-struct tarski_number tarski_ask(const struct tarski_opened *card, uint16_t product);
+struct tarski_number tarski_ask(const struct tarski_opened *card, struct tarski_product product);
 
 /* ---- the solver */
 
-/* Writes to out the whole numbers on the patterns, a rising list, whose queries on its adapted list are the numbers. Returns 0, or 3, 11, 15 or 12;
- * past the numbers out keeps what lay there. */
-uint16_t tarski_solve(size_t polynomials, const uint16_t *patterns, size_t pattern_count, const int64_t *numbers, size_t number_count,
+/* Writes to out the adapted list of the patterns, a rising list: as many products as patterns. Returns 0, or 3, 11 or 15; past the products out keeps
+ * what lay there. */
+uint16_t tarski_adapted(size_t polynomials, const struct tarski_pattern *patterns, size_t pattern_count, struct tarski_product *out, size_t out_length);
+/* Writes to out the whole numbers on the patterns, a rising list, whose queries on its adapted list (in the order of tarski_adapted) are the numbers.
+ * Returns 0, or 3, 11, 15 or 12; past the numbers out keeps what lay there. */
+uint16_t tarski_solve(size_t polynomials, const struct tarski_pattern *patterns, size_t pattern_count, const int64_t *numbers, size_t number_count,
                       int64_t *out, size_t out_length);
 
 /* ---- the run */
@@ -75,17 +158,22 @@ struct tarski_run {
     int8_t answers[128];
 };
 
-/* What a call on a run gives: TARSKI_ASK with the product to ask next, TARSKI_DONE, or TARSKI_REFUSED with the number. */
+/* What a call on a run gives: TARSKI_ASK with value.product to ask next, TARSKI_DONE, or TARSKI_REFUSED with the number value.refusal. */
 enum { TARSKI_ASK = 0, TARSKI_DONE = 1, TARSKI_REFUSED = 2 };
+
+union tarski_step_value {
+    struct tarski_product product;
+    uint16_t refusal;
+};
 
 struct tarski_step {
     uint16_t kind;
-    uint16_t value;
+    union tarski_step_value value;
 };
 
 /* A row of the list that a done run has found: a pattern, and how many points have it; 0 and 0 where it is refused. */
 struct tarski_row {
-    uint16_t pattern;
+    struct tarski_pattern pattern;
     uint16_t count;
     uint16_t refusal;
 };
@@ -100,12 +188,37 @@ struct tarski_copied {
 struct tarski_step tarski_start(struct tarski_run *run, size_t polynomials);
 /* The answer to the product asked last. 8, 9 and 10 close the run; 7 after it was done or closed. */
 struct tarski_step tarski_answer(struct tarski_run *run, int64_t answer);
-/* How many questions the run has asked. */
+/* How many questions the run has asked: those that were answered, the one whose answer closed the run among them. */
 size_t tarski_asked(const struct tarski_run *run);
 /* The row at a position from 0: 7 where the run is not done, 14 past the last row. */
 struct tarski_row tarski_row(const struct tarski_run *run, size_t position);
 /* Copies all rows: 7 where the run is not done, 15 where a slice is too short; longer ones keep what lies past the rows. */
-struct tarski_copied tarski_rows(const struct tarski_run *run, uint16_t *patterns, size_t pattern_room, uint16_t *counts, size_t count_room);
+struct tarski_copied tarski_rows(const struct tarski_run *run, struct tarski_pattern *patterns, size_t pattern_room, uint16_t *counts, size_t count_room);
+
+/* The records are laid out as the library has them. */
+#if defined(__cplusplus) && __cplusplus >= 201103L
+#define TARSKI_LAID_OUT(fact) static_assert(fact, #fact)
+#elif defined(__STDC_VERSION__) && __STDC_VERSION__ >= 201112L
+#define TARSKI_LAID_OUT(fact) _Static_assert(fact, #fact)
+#endif
+#ifdef TARSKI_LAID_OUT
+TARSKI_LAID_OUT(sizeof(size_t) == 8);
+TARSKI_LAID_OUT(sizeof(struct tarski_pattern) == 2 && sizeof(struct tarski_product) == 2);
+TARSKI_LAID_OUT(sizeof(struct tarski_card) == 24 && offsetof(struct tarski_card, points) == 8 && offsetof(struct tarski_card, refusal) == 16);
+TARSKI_LAID_OUT(sizeof(struct tarski_number) == 16 && offsetof(struct tarski_number, refusal) == 8);
+TARSKI_LAID_OUT(sizeof(struct tarski_opened) == 152 && offsetof(struct tarski_opened, polynomials) == 8);
+TARSKI_LAID_OUT(offsetof(struct tarski_opened, points) == 16 && offsetof(struct tarski_opened, positive) == 24);
+TARSKI_LAID_OUT(offsetof(struct tarski_opened, negative) == 88);
+TARSKI_LAID_OUT(sizeof(struct tarski_run) == 568 && offsetof(struct tarski_run, asked) == 8 && offsetof(struct tarski_run, phase) == 16);
+TARSKI_LAID_OUT(offsetof(struct tarski_run, round) == 24 && offsetof(struct tarski_run, points) == 32 && offsetof(struct tarski_run, rows) == 40);
+TARSKI_LAID_OUT(offsetof(struct tarski_run, patterns) == 48 && offsetof(struct tarski_run, counts) == 176);
+TARSKI_LAID_OUT(offsetof(struct tarski_run, products) == 304 && offsetof(struct tarski_run, answered) == 432);
+TARSKI_LAID_OUT(offsetof(struct tarski_run, answers) == 440);
+TARSKI_LAID_OUT(sizeof(struct tarski_step) == 4 && offsetof(struct tarski_step, value) == 2);
+TARSKI_LAID_OUT(sizeof(struct tarski_row) == 6 && offsetof(struct tarski_row, count) == 2 && offsetof(struct tarski_row, refusal) == 4);
+TARSKI_LAID_OUT(sizeof(struct tarski_copied) == 16 && offsetof(struct tarski_copied, refusal) == 8);
+#undef TARSKI_LAID_OUT
+#endif
 
 #ifdef __cplusplus
 }

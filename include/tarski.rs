@@ -1,11 +1,90 @@
 //! Safe calls of libtarski.a for Rust: include this file as a module and link the library (`-L target/staticlib -l static=tarski`).
-//! README.md has the refusal table; `Err` carries its number.
+//! `include/tarski.h` has what holds of all calls; `Err` carries the refusal, and README.md has its table.
 
-pub const LONGEST_CARD: usize = 318;
+use std::fmt;
+use std::mem::{offset_of, size_of};
+
+/// The version of this module and of the library beside it.
+pub const VERSION: (u32, u32, u32) = (0, 1, 0);
+/// The most polynomials and the most points of a card, and the most rows of a run.
+pub const MOST_POLYNOMIALS: usize = 8;
+pub const MOST_POINTS: usize = 64;
 pub const MOST_ROWS: usize = 64;
+/// The most questions that a run asks.
+pub const MOST_QUESTIONS: usize = 593;
+/// The longest card, in bytes; read one byte more from a stream, or a card that is too long looks sound.
+pub const LONGEST_CARD: usize = 318;
+/// The most bytes of stack that a call uses.
+pub const MOST_STACK: usize = 32768;
+
+/// The number of a sign condition: digit j to the base 3 is polynomial j's sign, 0 for 0, 1 for +, 2 for −.
+#[repr(transparent)]
+#[derive(Clone, Copy, Debug, Default, PartialEq, Eq, PartialOrd, Ord, Hash)]
+pub struct Pattern(pub u16);
+
+/// The number of a product of powers: digit j to the base 3 is polynomial j's power.
+#[repr(transparent)]
+#[derive(Clone, Copy, Debug, Default, PartialEq, Eq, PartialOrd, Ord, Hash)]
+pub struct Product(pub u16);
+
+/// Why a call is refused: a number from 1 to 15.
+#[repr(transparent)]
+#[derive(Clone, Copy, Debug, PartialEq, Eq, PartialOrd, Ord, Hash)]
+pub struct Refusal(pub u16);
+
+impl Refusal {
+    pub const WRONG_LENGTH: Refusal = Refusal(1);
+    pub const WRONG_BYTE: Refusal = Refusal(2);
+    pub const WRONG_COUNT: Refusal = Refusal(3);
+    pub const WRONG_OFFSET: Refusal = Refusal(4);
+    pub const WRONG_POLYNOMIAL: Refusal = Refusal(5);
+    pub const WRONG_POINT: Refusal = Refusal(6);
+    pub const LATE: Refusal = Refusal(7);
+    pub const BAD_FIRST: Refusal = Refusal(8);
+    pub const BAD_LATER: Refusal = Refusal(9);
+    pub const NO_COUNTS: Refusal = Refusal(10);
+    pub const WRONG_LIST: Refusal = Refusal(11);
+    pub const NO_SOLUTION: Refusal = Refusal(12);
+    pub const WRONG_PRODUCT: Refusal = Refusal(13);
+    pub const PAST_LAST: Refusal = Refusal(14);
+    pub const TOO_SHORT: Refusal = Refusal(15);
+
+    /// What the number means, in words.
+    pub fn text(self) -> &'static str {
+        match self {
+            Refusal::WRONG_LENGTH => "the card is shorter or longer than it says",
+            Refusal::WRONG_BYTE => "byte 0 or byte 3 is wrong",
+            Refusal::WRONG_COUNT => "s is not 1 to 8, or n is above 64",
+            Refusal::WRONG_OFFSET => "an offset is not where its body begins",
+            Refusal::WRONG_POLYNOMIAL => "a degree, a coefficient or a top coefficient is wrong",
+            Refusal::WRONG_POINT => "a point is outside -100 to 100, or falls",
+            Refusal::LATE => "an answer after the run was done or closed; rows wanted before it is done or after it closed",
+            Refusal::BAD_FIRST => "the first answer is below 0 or above 64",
+            Refusal::BAD_LATER => "a later answer is outside -n .. n",
+            Refusal::NO_COUNTS => "a round's answers fit no counts",
+            Refusal::WRONG_LIST => {
+                "the solver's list does not rise, is over 64 long, has a pattern above 3^s - 1, or there are not as many numbers as patterns"
+            }
+            Refusal::NO_SOLUTION => "no whole numbers with absolute values adding up to at most 64 have these queries",
+            Refusal::WRONG_PRODUCT => "the product number is above 3^s - 1",
+            Refusal::PAST_LAST => "there is no polynomial, or no row, at this position",
+            Refusal::TOO_SHORT => "an output slice is too short",
+            _ => "no such refusal",
+        }
+    }
+}
+
+impl fmt::Display for Refusal {
+    fn fmt(&self, out: &mut fmt::Formatter) -> fmt::Result {
+        write!(out, "refused by {}: {}", self.0, self.text())
+    }
+}
+
+impl std::error::Error for Refusal {}
 
 /// An opened card: the signs of its polynomials at its points.
 #[repr(C)]
+#[derive(Clone)]
 pub struct Opened {
     refusal: u16,
     polynomials: usize,
@@ -31,16 +110,16 @@ pub struct Run {
     answers: [i8; 128],
 }
 
-/// What an answer gives: the next product to ask, done, or a refusal number.
+/// What an answer gives: the next product to ask, done, or a refusal.
 #[derive(Clone, Copy, Debug, PartialEq, Eq)]
 pub enum Step {
-    Ask(u16),
+    Ask(Product),
     Done,
-    Refused(u16),
+    Refused(Refusal),
 }
 
 mod c {
-    use super::{Opened, Run};
+    use super::{Opened, Pattern, Product, Run};
 
     #[repr(C)]
     pub struct Card {
@@ -63,7 +142,7 @@ mod c {
 
     #[repr(C)]
     pub struct Row {
-        pub pattern: u16,
+        pub pattern: Pattern,
         pub count: u16,
         pub refusal: u16,
     }
@@ -76,44 +155,67 @@ mod c {
 
     extern "C" {
         pub fn tarski_check(card: *const u8, length: usize) -> Card;
-        pub fn tarski_query(card: *const u8, length: usize, product: u16) -> Number;
+        pub fn tarski_value(card: *const u8, length: usize, position: usize, x: i8) -> Number;
+        pub fn tarski_query(card: *const u8, length: usize, product: Product) -> Number;
         pub fn tarski_open(card: *const u8, length: usize) -> Opened;
-        pub fn tarski_ask(card: *const Opened, product: u16) -> Number;
-        pub fn tarski_solve(s: usize, patterns: *const u16, count: usize, numbers: *const i64, number_count: usize, out: *mut i64, room: usize) -> u16;
+        pub fn tarski_ask(card: *const Opened, product: Product) -> Number;
+        pub fn tarski_adapted(s: usize, patterns: *const Pattern, count: usize, out: *mut Product, room: usize) -> u16;
+        pub fn tarski_solve(s: usize, patterns: *const Pattern, count: usize, numbers: *const i64, number_count: usize, out: *mut i64, room: usize) -> u16;
         pub fn tarski_start(run: *mut Run, s: usize) -> Step;
         pub fn tarski_answer(run: *mut Run, answer: i64) -> Step;
         pub fn tarski_asked(run: *const Run) -> usize;
         pub fn tarski_row(run: *const Run, position: usize) -> Row;
-        pub fn tarski_rows(run: *const Run, patterns: *mut u16, room: usize, counts: *mut u16, count_room: usize) -> Copied;
+        pub fn tarski_rows(run: *const Run, patterns: *mut Pattern, room: usize, counts: *mut u16, count_room: usize) -> Copied;
     }
 }
 
-fn unless<T>(refusal: u16, value: T) -> Result<T, u16> {
-    if refusal == 0 { Ok(value) } else { Err(refusal) }
+// The records are laid out as the library has them, and as include/tarski.h says.
+const _: () = {
+    assert!(size_of::<usize>() == 8 && size_of::<Pattern>() == 2 && size_of::<Product>() == 2);
+    assert!(size_of::<c::Card>() == 24 && offset_of!(c::Card, points) == 8 && offset_of!(c::Card, refusal) == 16);
+    assert!(size_of::<c::Number>() == 16 && offset_of!(c::Number, refusal) == 8);
+    assert!(size_of::<Opened>() == 152 && offset_of!(Opened, polynomials) == 8 && offset_of!(Opened, points) == 16);
+    assert!(offset_of!(Opened, positive) == 24 && offset_of!(Opened, negative) == 88);
+    assert!(size_of::<Run>() == 568 && offset_of!(Run, asked) == 8 && offset_of!(Run, phase) == 16 && offset_of!(Run, round) == 24);
+    assert!(offset_of!(Run, points) == 32 && offset_of!(Run, rows) == 40 && offset_of!(Run, patterns) == 48 && offset_of!(Run, counts) == 176);
+    assert!(offset_of!(Run, products) == 304 && offset_of!(Run, answered) == 432 && offset_of!(Run, answers) == 440);
+    assert!(size_of::<c::Step>() == 4 && offset_of!(c::Step, value) == 2);
+    assert!(size_of::<c::Row>() == 6 && offset_of!(c::Row, count) == 2 && offset_of!(c::Row, refusal) == 4);
+    assert!(size_of::<c::Copied>() == 16 && offset_of!(c::Copied, refusal) == 8);
+};
+
+fn unless<T>(refusal: u16, value: T) -> Result<T, Refusal> {
+    if refusal == 0 { Ok(value) } else { Err(Refusal(refusal)) }
 }
 
 fn step(step: c::Step) -> Step {
     match step.kind {
-        0 => Step::Ask(step.value),
+        0 => Step::Ask(Product(step.value)),
         1 => Step::Done,
-        _ => Step::Refused(step.value),
+        _ => Step::Refused(Refusal(step.value)),
     }
 }
 
 /// The number of polynomials and of points of a card.
-pub fn check(card: &[u8]) -> Result<(usize, usize), u16> {
+pub fn check(card: &[u8]) -> Result<(usize, usize), Refusal> {
     let said = unsafe { c::tarski_check(card.as_ptr(), card.len()) };
     unless(said.refusal, (said.polynomials, said.points))
 }
 
+/// The value at x of the polynomial at a position from 0.
+pub fn value(card: &[u8], position: usize, x: i8) -> Result<i64, Refusal> {
+    let answer = unsafe { c::tarski_value(card.as_ptr(), card.len(), position, x) };
+    unless(answer.refusal, answer.number)
+}
+
 /// The Tarski query of a product on a card.
-pub fn query(card: &[u8], product: u16) -> Result<i64, u16> {
+pub fn query(card: &[u8], product: Product) -> Result<i64, Refusal> {
     let answer = unsafe { c::tarski_query(card.as_ptr(), card.len(), product) };
     unless(answer.refusal, answer.number)
 }
 
 /// A card opened once, to ask many products.
-pub fn open(card: &[u8]) -> Result<Opened, u16> {
+pub fn open(card: &[u8]) -> Result<Opened, Refusal> {
     let opened = unsafe { c::tarski_open(card.as_ptr(), card.len()) };
     unless(opened.refusal, opened)
 }
@@ -123,25 +225,35 @@ impl Opened {
         self.polynomials
     }
 
+    pub fn points(&self) -> usize {
+        self.points
+    }
+
     /// Points with known signs in place of a card's: bit k of `positive[j]` and `negative[j]` is point k's, for P(j+1).
     pub fn of_signs(polynomials: usize, points: usize, positive: [u64; 8], negative: [u64; 8]) -> Opened {
         Opened { refusal: 0, polynomials, points, positive, negative }
     }
 
-    pub fn ask(&self, product: u16) -> Result<i64, u16> {
+    pub fn ask(&self, product: Product) -> Result<i64, Refusal> {
         let answer = unsafe { c::tarski_ask(self, product) };
         unless(answer.refusal, answer.number)
     }
 }
 
-/// Writes to out the whole numbers on the patterns whose queries on the adapted list are the numbers.
-pub fn solve(s: usize, patterns: &[u16], numbers: &[i64], out: &mut [i64]) -> Result<(), u16> {
+/// Writes to the front of out the adapted list of the patterns: as many products.
+pub fn adapted(s: usize, patterns: &[Pattern], out: &mut [Product]) -> Result<(), Refusal> {
+    let refusal = unsafe { c::tarski_adapted(s, patterns.as_ptr(), patterns.len(), out.as_mut_ptr(), out.len()) };
+    unless(refusal, ())
+}
+
+/// Writes to the front of out the whole numbers on the patterns whose queries on the adapted list are the numbers.
+pub fn solve(s: usize, patterns: &[Pattern], numbers: &[i64], out: &mut [i64]) -> Result<(), Refusal> {
     let refusal = unsafe { c::tarski_solve(s, patterns.as_ptr(), patterns.len(), numbers.as_ptr(), numbers.len(), out.as_mut_ptr(), out.len()) };
     unless(refusal, ())
 }
 
 impl Run {
-    /// A run for s polynomials; its first question is product 0. Outside 1 to 8 it is refused by 3, and the record is read as a closed one.
+    /// A run for s polynomials; its first question is product 0. Outside 1 to 8 it is refused by 3, and the record is one of zeros.
     pub fn start(s: usize) -> (Run, Step) {
         let mut run = std::mem::MaybeUninit::zeroed();
         unsafe {
@@ -159,13 +271,13 @@ impl Run {
     }
 
     /// The pattern and count of a row of a done run.
-    pub fn row(&self, position: usize) -> Result<(u16, u16), u16> {
+    pub fn row(&self, position: usize) -> Result<(Pattern, u16), Refusal> {
         let row = unsafe { c::tarski_row(self, position) };
         unless(row.refusal, (row.pattern, row.count))
     }
 
     /// Copies all rows; how many there are.
-    pub fn rows(&self, patterns: &mut [u16], counts: &mut [u16]) -> Result<usize, u16> {
+    pub fn rows(&self, patterns: &mut [Pattern], counts: &mut [u16]) -> Result<usize, Refusal> {
         let copied = unsafe { c::tarski_rows(self, patterns.as_mut_ptr(), patterns.len(), counts.as_mut_ptr(), counts.len()) };
         unless(copied.refusal, copied.rows)
     }

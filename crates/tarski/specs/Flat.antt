@@ -1,7 +1,9 @@
 -- The answers of the calls as plain numbers, for C and Rust: a refusal number beside the result, 0 where nothing is refused.
 --
 --   cardOf a                        == s and n of a sound card; no polynomials and no points where it is refused
+--   valueOf a                       == a value, or 0 where it is refused
 --   numberOf a                      == a query, or 0 where it is refused
+--   listRefusalOf a                 == the number that refuses a call for an adapted list, or 0
 --   refusalOf a                     == the number that refuses a solver's call, or 0
 --   flatStepOf a                    == a step of a run: 0 with the product to ask, 1 done, 2 with the number that refuses
 --   flatAnsweredOf t                == the record after a call on a run, and its step as plain numbers
@@ -18,6 +20,10 @@ use Prim.Native.Nat.{ℕ}
 use lib.IntN.{ℤ, pos}
 use Rattle.card.specs.declared.Card.{Card}
 use Rattle.card.specs.declared.Card.the-variants as of-card
+use Rattle.card.specs.declared.Evaluated.{Evaluated}
+use Rattle.card.specs.declared.Evaluated.the-variants as of-value
+use Rattle.adapted_list.specs.declared.Listed.{Listed}
+use Rattle.adapted_list.specs.declared.Listed.the-variants as of-list
 use Rattle.query.specs.declared.Queried.{Queried}
 use Rattle.query.specs.declared.Queried.the-variants as of-query
 use Rattle.solver.specs.declared.Solved.{Solved}
@@ -36,9 +42,17 @@ unfoldable pub cardOf : Card → Checked
 cardOf (of-card.Sound s n) = record { polynomials = s; points = n; refusal = 0 }
 cardOf (of-card.Refused k) = record { polynomials = 0; points = 0; refusal = k }
 
+unfoldable pub valueOf : Evaluated → Number
+valueOf (of-value.Value z) = record { number = z; refusal = 0 }
+valueOf (of-value.Refused k) = record { number = pos 0; refusal = k }
+
 unfoldable pub numberOf : Queried → Number
 numberOf (of-query.Number z) = record { number = z; refusal = 0 }
 numberOf (of-query.Refused k) = record { number = pos 0; refusal = k }
+
+unfoldable pub listRefusalOf : Listed → ℕ
+listRefusalOf of-list.Written = 0
+listRefusalOf (of-list.Refused k) = k
 
 unfoldable pub refusalOf : Solved → ℕ
 refusalOf of-solver.Found = 0

@@ -1,14 +1,18 @@
 // The library for programs in C and Rust (include/tarski.h, include/tarski.rs): the proved calls on plain numbers, slices as pointer and length, and
 // records lent by reference. An enum's cases are numbers here: the definitions in specs/Flat.antt say which.
 ghost use mathlib.Core.Path.{_≡_};
-ghost use Rattle.card.specs.Answers.{reading};
+ghost use Rattle.card.specs.Answers.{reading, valueAnswer};
 ghost use Rattle.query.specs.Query.{queryAnswer};
+ghost use Rattle.adapted_list.specs.Listing.{listOf};
 ghost use Rattle.solver.specs.Solving.{solveOf};
 ghost use Rattle.query.specs.Opened.{opened, openedAnswer as askedOf};
 ghost use Rattle.runs.specs.Run.{fetchOf, copyOf};
 ghost use Rattle.determination.specs.Record.{stateOf, stepOf};
-ghost use Rattle.tarski.specs.Flat.{cardOf, numberOf, refusalOf, flatStepOf, AnswerGivesFlat, StartGivesFlat, rowOf, leftOf};
+ghost use Rattle.tarski.specs.Flat.{cardOf, valueOf, numberOf, refusalOf, listRefusalOf, flatStepOf, AnswerGivesFlat, StartGivesFlat, rowOf, leftOf};
+use adapted_list::Listed;
+use adapted_list::adapted_list;
 use card::Card;
+use card::Evaluated;
 use determination::Copied;
 use determination::Fetched;
 use determination::Run;
@@ -32,12 +36,15 @@ pub struct Checked {
     pub refusal: u16,
 }
 
-// A query, or the number that refuses it.
+// A query or a value, or the number that refuses it.
 #[repr(C)]
 pub struct Number {
     pub number: i64,
     pub refusal: u16,
 }
+
+// The number shown where it is refused.
+const NO_NUMBER: i64 = 0;
 
 // The kinds of what a call on a run gives.
 const ASK: u16 = 0;
@@ -95,6 +102,23 @@ pub extern "C" fn tarski_check(card: &[u8]) -> Checked
     }
 }
 
+// The value of polynomial j of a card at x.
+#[no_mangle]
+pub extern "C" fn tarski_value(card: &[u8], j: usize, x: i8) -> Number
+    ensures { λ r. ⌜ r ≡ valueOf (valueAnswer (now (card .entry)) j x) ⌝ }
+{
+    match card::value(card, j, x) {
+        Evaluated::Value(v) => Number {
+            number: v,
+            refusal: NONE,
+        },
+        Evaluated::Refused(k) => Number {
+            number: NO_NUMBER,
+            refusal: k,
+        },
+    }
+}
+
 // A query's answer as plain numbers.
 fn flat(answer: Queried) -> Number
     ensures { λ r. ⌜ r ≡ numberOf answer ⌝ }
@@ -105,7 +129,7 @@ fn flat(answer: Queried) -> Number
             refusal: NONE,
         },
         Queried::Refused(k) => Number {
-            number: 0,
+            number: NO_NUMBER,
             refusal: k,
         },
     }
@@ -143,6 +167,18 @@ pub extern "C" fn tarski_ask(card: &Opened, product: u16) -> Number
 }
 
 // ---- the solver
+
+// Writes to out the adapted list of the patterns. 0, or the refusal.
+#[no_mangle]
+pub extern "C" fn tarski_adapted(s: usize, patterns: &[u16], out: &mut [u16]) -> u16
+    ensures { λ r. ⌜ r ≡ listRefusalOf (listOf s (now (patterns .entry)) (now (out .entry)) .0) ⌝ }
+    ensures { λ _. ⌜ now (out .exit) ≡ listOf s (now (patterns .entry)) (now (out .entry)) .1 ⌝ }
+{
+    match adapted_list(s, patterns, out) {
+        Listed::Written => NONE,
+        Listed::Refused(k) => k,
+    }
+}
 
 // Writes to out the whole numbers on the patterns whose queries on the adapted list are the numbers. 0, or the refusal.
 #[no_mangle]

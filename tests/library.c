@@ -1,0 +1,260 @@
+/* Calls every function of include/tarski.h with results that are known, and each refusal number once; C99, C11 and C++. With the word `texts` it
+ * prints what each refusal number means. Its argument else is the card of example 3.2.13 (X, X + 1, X - 2 at -3, 1, 3). Says what is wrong, and fails. */
+#include <stdio.h>
+#include <string.h>
+
+#include "tarski.h"
+
+static int wrong = 0, tried = 0;
+
+#define SEE(fact)                                                                                                                                   \
+    do {                                                                                                                                           \
+        tried++;                                                                                                                                   \
+        if (!(fact)) {                                                                                                                             \
+            printf("%s:%d: not so: %s\n", __FILE__, __LINE__, #fact);                                                                               \
+            wrong++;                                                                                                                               \
+        }                                                                                                                                          \
+    } while (0)
+
+static uint8_t card[TARSKI_LONGEST_CARD + 1];
+static size_t length;
+
+static struct tarski_product product(unsigned number) {
+    struct tarski_product made;
+    made.number = (uint16_t)number;
+    return made;
+}
+
+/* The card with one byte changed. */
+static uint8_t changed[TARSKI_LONGEST_CARD + 1];
+
+static const uint8_t *with(size_t place, unsigned byte) {
+    memcpy(changed, card, sizeof changed);
+    changed[place] = (uint8_t)byte;
+    return changed;
+}
+
+static void cards(void) {
+    struct tarski_card said = tarski_check(card, length);
+    SEE(said.refusal == TARSKI_NOT_REFUSED && said.polynomials == 3 && said.points == 3);
+    SEE(tarski_check(card, length - 1).refusal == TARSKI_WRONG_LENGTH);
+    SEE(tarski_check(card, length + 1).refusal == TARSKI_WRONG_LENGTH);
+    SEE(tarski_check(with(0, 2), length).refusal == TARSKI_WRONG_BYTE);
+    SEE(tarski_check(with(1, 9), length).refusal == TARSKI_WRONG_COUNT);
+    SEE(tarski_check(with(2, 65), length).refusal == TARSKI_WRONG_COUNT);
+    SEE(tarski_check(with(4, 13), length).refusal == TARSKI_WRONG_OFFSET);
+    SEE(tarski_check(with(12, 7), length).refusal == TARSKI_WRONG_POLYNOMIAL);
+    SEE(tarski_check(with(length - 1, 101), length).refusal == TARSKI_WRONG_POINT);
+    said = tarski_check(with(0, 2), length);
+    SEE(said.polynomials == 0 && said.points == 0);
+
+    SEE(tarski_value(card, length, 0, -3).number == -3 && tarski_value(card, length, 0, -3).refusal == 0);
+    SEE(tarski_value(card, length, 1, 5).number == 6);
+    SEE(tarski_value(card, length, 2, -100).number == -102);
+    SEE(tarski_value(card, length, 3, 1).refusal == TARSKI_PAST_LAST && tarski_value(card, length, 3, 1).number == 0);
+    SEE(tarski_value(card, length - 1, 3, 1).refusal == TARSKI_WRONG_LENGTH);
+}
+
+/* The query of a product by the card's values. */
+static int64_t by_values(unsigned a) {
+    static const int8_t points[3] = {-3, 1, 3};
+    int64_t sum = 0;
+    for (int k = 0; k < 3; k++) {
+        int sign = 1;
+        unsigned rest = a;
+        for (size_t j = 0; j < 3; j++, rest /= 3) {
+            int64_t v = tarski_value(card, length, j, points[k]).number;
+            for (unsigned power = rest % 3; power; power--)
+                sign *= v > 0 ? 1 : v < 0 ? -1 : 0;
+        }
+        sum += sign;
+    }
+    return sum;
+}
+
+static void queries(void) {
+    struct tarski_opened opened = tarski_open(card, length);
+    SEE(opened.refusal == 0 && opened.polynomials == 3 && opened.points == 3);
+    SEE(opened.positive[0] == 6 && opened.negative[0] == 1 && opened.positive[2] == 4 && opened.negative[2] == 3);
+    for (unsigned a = 0; a < 27; a++) {
+        struct tarski_number once = tarski_query(card, length, product(a)), asked = tarski_ask(&opened, product(a));
+        SEE(once.refusal == 0 && once.number == by_values(a));
+        SEE(asked.refusal == 0 && asked.number == by_values(a));
+    }
+    SEE(tarski_query(card, length, product(27)).refusal == TARSKI_WRONG_PRODUCT && tarski_query(card, length, product(27)).number == 0);
+    SEE(tarski_ask(&opened, product(27)).refusal == TARSKI_WRONG_PRODUCT && tarski_ask(&opened, product(65535)).refusal == TARSKI_WRONG_PRODUCT);
+    SEE(tarski_query(card, length - 1, product(0)).refusal == TARSKI_WRONG_LENGTH);
+    opened = tarski_open(with(3, 1), length);
+    SEE(opened.refusal == TARSKI_WRONG_BYTE && tarski_ask(&opened, product(0)).refusal == TARSKI_WRONG_BYTE);
+}
+
+/* A one-field struct is passed like its field, and what a register holds above its 16 bits has no effect: the same calls with such bits. */
+typedef struct tarski_number (*query_call)(const uint8_t *, size_t, struct tarski_product);
+typedef struct tarski_number (*query_wide)(const uint8_t *, size_t, uint32_t);
+typedef struct tarski_number (*ask_call)(const struct tarski_opened *, struct tarski_product);
+typedef struct tarski_number (*ask_wide)(const struct tarski_opened *, uint32_t);
+typedef struct tarski_number (*value_call)(const uint8_t *, size_t, size_t, int8_t);
+typedef struct tarski_number (*value_wide)(const uint8_t *, size_t, size_t, uint32_t);
+
+static void registers(void) {
+    static volatile query_call called_query = tarski_query;
+    static volatile ask_call called_ask = tarski_ask;
+    static volatile value_call called_value = tarski_value;
+    query_call narrow_query = called_query;
+    ask_call narrow_ask = called_ask;
+    value_call narrow_value = called_value;
+    query_wide query;
+    ask_wide ask;
+    value_wide value;
+    struct tarski_opened opened = tarski_open(card, length);
+    memcpy(&query, &narrow_query, sizeof query);
+    memcpy(&ask, &narrow_ask, sizeof ask);
+    memcpy(&value, &narrow_value, sizeof value);
+    SEE(query(card, length, 0xabcd0009u).number == -1 && query(card, length, 0xabcd0009u).refusal == 0);
+    SEE(ask(&opened, 0xabcd0009u).number == -1 && ask(&opened, 0xabcd001bu).refusal == TARSKI_WRONG_PRODUCT);
+    SEE(value(card, length, 1, 0xabcdef05u).number == 6 && value(card, length, 1, 0x000000fbu).number == -4);
+}
+
+static void solver(void) {
+    struct tarski_pattern list[3] = {{13}, {22}, {26}}, falling[2] = {{2}, {1}}, above[1] = {{27}}, many[65];
+    struct tarski_product out[65], kept = {4711};
+    struct tarski_opened opened = tarski_open(card, length);
+    int64_t numbers[65], found[4];
+    for (int k = 0; k < 65; k++)
+        many[k].number = (uint16_t)k, numbers[k] = 0, out[k] = kept;
+
+    SEE(tarski_adapted(0, list, 3, out, 65) == TARSKI_WRONG_COUNT && tarski_adapted(9, list, 3, out, 65) == TARSKI_WRONG_COUNT);
+    SEE(tarski_adapted(3, falling, 2, out, 65) == TARSKI_WRONG_LIST && tarski_adapted(3, above, 1, out, 65) == TARSKI_WRONG_LIST);
+    SEE(tarski_adapted(8, many, 65, out, 65) == TARSKI_WRONG_LIST && tarski_adapted(3, list, 3, out, 2) == TARSKI_TOO_SHORT);
+    for (int k = 0; k < 65; k++)
+        SEE(out[k].number == 4711);
+    SEE(tarski_adapted(8, many, 64, out, 64) == 0 && out[64].number == 4711);
+    for (int k = 0; k < 64; k++)
+        SEE(out[k].number == k);
+    SEE(tarski_adapted(3, list, 3, out, 65) == 0 && out[0].number == 0 && out[1].number == 1 && out[2].number == 9 && out[3].number != 0);
+
+    /* the numbers asked of the adapted list give back one point for each pattern */
+    for (int k = 0; k < 3; k++)
+        numbers[k] = tarski_ask(&opened, out[k]).number;
+    found[3] = 4711;
+    SEE(tarski_solve(3, list, 3, numbers, 3, found, 4) == 0);
+    SEE(found[0] == 1 && found[1] == 1 && found[2] == 1 && found[3] == 4711);
+    numbers[0] = 2, numbers[1] = 0, numbers[2] = 4;
+    SEE(tarski_solve(3, list, 3, numbers, 3, found, 4) == 0 && found[0] == 3 && found[1] == -2 && found[2] == 1);
+    SEE(tarski_solve(0, list, 3, numbers, 3, found, 4) == TARSKI_WRONG_COUNT);
+    SEE(tarski_solve(3, list, 3, numbers, 2, found, 4) == TARSKI_WRONG_LIST && tarski_solve(3, falling, 2, numbers, 2, found, 4) == TARSKI_WRONG_LIST);
+    SEE(tarski_solve(3, list, 3, numbers, 3, found, 2) == TARSKI_TOO_SHORT);
+    numbers[0] = 3, numbers[1] = 0, numbers[2] = 0;
+    SEE(tarski_solve(3, list, 3, numbers, 3, found, 4) == TARSKI_NO_SOLUTION);
+    SEE(found[0] == 3 && found[1] == -2 && found[2] == 1 && found[3] == 4711);
+}
+
+/* A record with memory after it, filled with a byte. */
+struct guarded {
+    struct tarski_run run;
+    unsigned char after[64];
+};
+
+static void fill(struct guarded *g, int byte) {
+    memset(g, byte, sizeof *g);
+}
+
+static void see_after(const struct guarded *g, int byte) {
+    for (size_t k = 0; k < sizeof g->after; k++)
+        SEE(g->after[k] == byte);
+}
+
+static void runs(void) {
+    struct tarski_opened opened = tarski_open(card, length);
+    for (int byte = 0; byte < 256; byte += 85) {
+        struct guarded g, before;
+        struct tarski_pattern patterns[5];
+        uint16_t counts[5];
+        struct tarski_step step;
+        struct tarski_row row;
+        struct tarski_copied copied;
+        fill(&g, byte), fill(&before, byte);
+        step = tarski_start(&g.run, 9);
+        SEE(step.kind == TARSKI_REFUSED && step.value.refusal == TARSKI_WRONG_COUNT && memcmp(&g, &before, sizeof g) == 0);
+        step = tarski_start(&g.run, 3);
+        SEE(step.kind == TARSKI_ASK && step.value.product.number == 0 && tarski_asked(&g.run) == 0);
+        SEE(tarski_row(&g.run, 0).refusal == TARSKI_LATE && tarski_rows(&g.run, patterns, 5, counts, 5).refusal == TARSKI_LATE);
+        for (int k = 0; step.kind == TARSKI_ASK; k++) {
+            SEE(tarski_asked(&g.run) == (size_t)k);
+            step = tarski_answer(&g.run, tarski_ask(&opened, step.value.product).number);
+        }
+        SEE(step.kind == TARSKI_DONE && tarski_asked(&g.run) == 11);
+        SEE(g.run.polynomials == 3 && g.run.asked == 11 && g.run.phase == 1 && g.run.points == 3 && g.run.rows == 3);
+        SEE(g.run.patterns[0] == 13 && g.run.patterns[2] == 26 && g.run.counts[0] == 1 && g.run.counts[2] == 1);
+        row = tarski_row(&g.run, 1);
+        SEE(row.refusal == 0 && row.pattern.number == 22 && row.count == 1);
+        row = tarski_row(&g.run, 3);
+        SEE(row.refusal == TARSKI_PAST_LAST && row.pattern.number == 0 && row.count == 0);
+        for (int k = 0; k < 5; k++)
+            patterns[k].number = 4711, counts[k] = 4712;
+        copied = tarski_rows(&g.run, patterns, 2, counts, 5);
+        SEE(copied.refusal == TARSKI_TOO_SHORT && copied.rows == 0 && patterns[0].number == 4711 && counts[0] == 4712);
+        SEE(tarski_rows(&g.run, patterns, 5, counts, 2).refusal == TARSKI_TOO_SHORT && tarski_rows(&g.run, NULL, 0, NULL, 0).refusal == TARSKI_TOO_SHORT);
+        copied = tarski_rows(&g.run, patterns, 4, counts, 5);
+        SEE(copied.refusal == 0 && copied.rows == 3 && patterns[0].number == 13 && patterns[1].number == 22 && patterns[2].number == 26);
+        SEE(counts[0] == 1 && counts[1] == 1 && counts[2] == 1 && patterns[3].number == 4711 && counts[3] == 4712);
+        step = tarski_answer(&g.run, 0);
+        SEE(step.kind == TARSKI_REFUSED && step.value.refusal == TARSKI_LATE && tarski_asked(&g.run) == 11);
+        see_after(&g, byte);
+    }
+}
+
+static void closed(void) {
+    static const int64_t answers[4][3] = {{-1, 0, 0}, {65, 0, 0}, {3, -4, 0}, {2, 1, 2}};
+    static const uint16_t refusals[4] = {TARSKI_BAD_FIRST, TARSKI_BAD_FIRST, TARSKI_BAD_LATER, TARSKI_NO_COUNTS};
+    static const size_t asked[4] = {1, 1, 2, 3};
+    for (int k = 0; k < 4; k++) {
+        struct tarski_run run;
+        struct tarski_step step = tarski_start(&run, 1);
+        for (int i = 0; step.kind == TARSKI_ASK && i < 3; i++)
+            step = tarski_answer(&run, answers[k][i]);
+        SEE(step.kind == TARSKI_REFUSED && step.value.refusal == refusals[k] && tarski_asked(&run) == asked[k]);
+        step = tarski_answer(&run, 0);
+        SEE(step.kind == TARSKI_REFUSED && step.value.refusal == TARSKI_LATE && tarski_row(&run, 0).refusal == TARSKI_LATE);
+    }
+}
+
+/* NULL with the length 0. */
+static void nothing(void) {
+    struct tarski_run run;
+    struct tarski_step step = tarski_start(&run, 1);
+    SEE(tarski_check(NULL, 0).refusal == TARSKI_WRONG_LENGTH && tarski_open(NULL, 0).refusal == TARSKI_WRONG_LENGTH);
+    SEE(tarski_query(NULL, 0, product(0)).refusal == TARSKI_WRONG_LENGTH && tarski_value(NULL, 0, 0, 0).refusal == TARSKI_WRONG_LENGTH);
+    SEE(tarski_adapted(1, NULL, 0, NULL, 0) == 0 && tarski_solve(1, NULL, 0, NULL, 0, NULL, 0) == 0);
+    step = tarski_answer(&run, 0);
+    SEE(step.kind == TARSKI_DONE && tarski_rows(&run, NULL, 0, NULL, 0).refusal == 0 && tarski_rows(&run, NULL, 0, NULL, 0).rows == 0);
+}
+
+int main(int count, char **words) {
+    FILE *file;
+    if (count == 2 && strcmp(words[1], "texts") == 0) {
+        for (uint16_t k = 0; k < 17; k++)
+            printf("%u %s\n", (unsigned)k, tarski_refusal_text(k));
+        return 0;
+    }
+    file = count == 2 ? fopen(words[1], "rb") : NULL;
+    if (!file) {
+        puts("usage: library CARD | texts");
+        return 2;
+    }
+    length = fread(card, 1, sizeof card, file);
+    fclose(file);
+    SEE(length == 42);
+    SEE(strcmp(TARSKI_VERSION, "0.1.0") == 0 && TARSKI_VERSION_MAJOR == 0 && TARSKI_VERSION_MINOR == 1 && TARSKI_VERSION_PATCH == 0);
+    if (!wrong) {
+        cards();
+        queries();
+        registers();
+        solver();
+        runs();
+        closed();
+        nothing();
+    }
+    printf("%d facts tried, %d wrong\n", tried, wrong);
+    return wrong ? 1 : 0;
+}

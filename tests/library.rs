@@ -1,0 +1,109 @@
+// Calls every function of include/tarski.rs with results that are known, and sees each refusal once. With the word `texts` it prints what each refusal
+// number means. Its argument else is the card of example 3.2.13 (X, X + 1, X − 2 at −3, 1, 3).
+#[path = "../include/tarski.rs"]
+mod tarski;
+
+use tarski::{Opened, Pattern, Product, Refusal, Run, Step};
+
+fn with(card: &[u8], place: usize, byte: u8) -> Vec<u8> {
+    let mut changed = card.to_vec();
+    changed[place] = byte;
+    changed
+}
+
+fn cards(card: &[u8]) {
+    let last = card.len() - 1;
+    assert_eq!(tarski::check(card), Ok((3, 3)));
+    assert_eq!(tarski::check(&card[..last]), Err(Refusal::WRONG_LENGTH));
+    assert_eq!(tarski::check(&[]), Err(Refusal::WRONG_LENGTH));
+    assert_eq!(tarski::check(&with(card, 0, 2)), Err(Refusal::WRONG_BYTE));
+    assert_eq!(tarski::check(&with(card, 1, 9)), Err(Refusal::WRONG_COUNT));
+    assert_eq!(tarski::check(&with(card, 4, 13)), Err(Refusal::WRONG_OFFSET));
+    assert_eq!(tarski::check(&with(card, 12, 7)), Err(Refusal::WRONG_POLYNOMIAL));
+    assert_eq!(tarski::check(&with(card, last, 101)), Err(Refusal::WRONG_POINT));
+    assert_eq!(tarski::value(card, 0, -3), Ok(-3));
+    assert_eq!(tarski::value(card, 1, 5), Ok(6));
+    assert_eq!(tarski::value(card, 2, -100), Ok(-102));
+    assert_eq!(tarski::value(card, 3, 1), Err(Refusal::PAST_LAST));
+    assert_eq!(tarski::query(card, Product(9)), Ok(-1));
+    assert_eq!(tarski::query(card, Product(27)), Err(Refusal::WRONG_PRODUCT));
+    let opened = tarski::open(card).unwrap();
+    assert_eq!((opened.polynomials(), opened.points()), (3, 3));
+    for number in 0..27 {
+        assert_eq!(opened.ask(Product(number)), tarski::query(card, Product(number)));
+    }
+    assert_eq!(opened.ask(Product(27)), Err(Refusal::WRONG_PRODUCT));
+    assert_eq!(tarski::open(&with(card, 3, 1)).err(), Some(Refusal::WRONG_BYTE));
+    let signs = Opened::of_signs(1, 2, [3, 0, 0, 0, 0, 0, 0, 0], [0; 8]);
+    assert_eq!((signs.ask(Product(0)), signs.ask(Product(1))), (Ok(2), Ok(2)));
+}
+
+fn solver(card: &[u8]) {
+    let opened = tarski::open(card).unwrap();
+    let list = [Pattern(13), Pattern(22), Pattern(26)];
+    let mut products = [Product(4711); 4];
+    assert_eq!(tarski::adapted(0, &list, &mut products), Err(Refusal::WRONG_COUNT));
+    assert_eq!(tarski::adapted(2, &list, &mut products), Err(Refusal::WRONG_LIST));
+    assert_eq!(tarski::adapted(3, &list, &mut products[..2]), Err(Refusal::TOO_SHORT));
+    assert_eq!(products, [Product(4711); 4]);
+    assert_eq!(tarski::adapted(3, &list, &mut products), Ok(()));
+    assert_eq!(products, [Product(0), Product(1), Product(9), Product(4711)]);
+    let numbers: Vec<i64> = products[..3].iter().map(|&a| opened.ask(a).unwrap()).collect();
+    let mut found = [4711; 4];
+    assert_eq!(tarski::solve(3, &list, &numbers, &mut found), Ok(()));
+    assert_eq!(found, [1, 1, 1, 4711]);
+    assert_eq!(tarski::solve(3, &list, &[2, 0, 4], &mut found), Ok(()));
+    assert_eq!(found, [3, -2, 1, 4711]);
+    assert_eq!(tarski::solve(9, &list, &numbers, &mut found), Err(Refusal::WRONG_COUNT));
+    assert_eq!(tarski::solve(3, &list, &numbers[..2], &mut found), Err(Refusal::WRONG_LIST));
+    assert_eq!(tarski::solve(3, &list, &numbers, &mut found[..2]), Err(Refusal::TOO_SHORT));
+    assert_eq!(tarski::solve(3, &list, &[3, 0, 0], &mut found), Err(Refusal::NO_SOLUTION));
+    assert_eq!(found, [3, -2, 1, 4711]);
+}
+
+fn runs(card: &[u8]) {
+    let opened = tarski::open(card).unwrap();
+    assert_eq!(Run::start(9).1, Step::Refused(Refusal::WRONG_COUNT));
+    let (mut run, mut step) = Run::start(3);
+    assert_eq!((step, run.asked()), (Step::Ask(Product(0)), 0));
+    assert_eq!(run.row(0), Err(Refusal::LATE));
+    while let Step::Ask(product) = step {
+        step = run.answer(opened.ask(product).unwrap());
+    }
+    assert_eq!((step, run.asked()), (Step::Done, 11));
+    assert_eq!(run.row(1), Ok((Pattern(22), 1)));
+    assert_eq!(run.row(3), Err(Refusal::PAST_LAST));
+    let (mut patterns, mut counts) = ([Pattern(4711); 4], [4712; 4]);
+    assert_eq!(run.rows(&mut patterns[..2], &mut counts), Err(Refusal::TOO_SHORT));
+    assert_eq!(run.rows(&mut patterns, &mut counts), Ok(3));
+    assert_eq!(patterns, [Pattern(13), Pattern(22), Pattern(26), Pattern(4711)]);
+    assert_eq!(counts, [1, 1, 1, 4712]);
+    let mut copy = run.clone();
+    assert_eq!(copy.answer(0), Step::Refused(Refusal::LATE));
+    for (answers, refusal) in [(&[-1][..], Refusal::BAD_FIRST), (&[3, 4][..], Refusal::BAD_LATER), (&[2, 1, 2][..], Refusal::NO_COUNTS)] {
+        let (mut run, _) = Run::start(1);
+        let last = answers.iter().map(|&answer| run.answer(answer)).last();
+        assert_eq!((last, run.asked()), (Some(Step::Refused(refusal)), answers.len()));
+        assert_eq!(run.rows(&mut [], &mut []), Err(Refusal::LATE));
+    }
+}
+
+fn main() {
+    let word = std::env::args().nth(1).expect("usage: library CARD | texts");
+    if word == "texts" {
+        for number in 1..17 {
+            println!("{number} {}", Refusal(number).text());
+        }
+        return;
+    }
+    let card = std::fs::read(word).unwrap();
+    assert_eq!(card.len(), 42);
+    assert_eq!(tarski::VERSION, (0, 1, 0));
+    assert_eq!(Refusal(3).to_string(), "refused by 3: s is not 1 to 8, or n is above 64");
+    let limits = [tarski::MOST_POLYNOMIALS, tarski::MOST_POINTS, tarski::MOST_ROWS, tarski::MOST_QUESTIONS, tarski::LONGEST_CARD, tarski::MOST_STACK];
+    assert_eq!(limits, [8, 64, 64, 593, 318, 32768]);
+    cards(&card);
+    solver(&card);
+    runs(&card);
+    println!("every call gives what it must");
+}
