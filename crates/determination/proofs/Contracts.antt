@@ -1,6 +1,6 @@
--- DEMAND 3 of the code: the calls are known by their contracts alone, so that a weaker promise of any of them breaks the theorem. `Learnt` is
--- what a call promises of its arguments, its result and what it leaves in lent memory. Of the answer on a lent record it is the assertion of
--- its contract, which held where the call ended (`Held`).
+-- DEMAND 3 of the code: the calls are known by their contracts alone, so that a weaker promise of any of them breaks the theorem. `Learnt`
+-- is what a call promises of its arguments, its result and what it leaves in lent memory. Of the answer on a lent record it is the
+-- assertion of its contract, which held where the call ended (`Held`).
 use mathlib.Core.Path.{_≡_, ap, ap₂, _∙_}
 use mathlib.Core.HLevel.{×-prop}
 use mathlib.Core.List.{List, _++_}
@@ -125,8 +125,8 @@ keeps-copies c a b x u = u .gave ∙ u .kept ∙ ap₂ (λ (p q : List ℕ). cop
 kept : Keeps Run stateOf Started Took Fetches Copies
 kept = record { starts = keeps-starts; answers = keeps-answers; fetches = keeps-fetches; copies = keeps-copies }
 
--- a list of answers, each through any of the entries, row fetches and row copies after a start with s from 1 to 8, in which each call gets the
--- record as the one before left it
+-- a list of answers, each through any of the entries, row fetches and row copies after a start with s from 1 to 8, in which each call gets
+-- the record as the one before left it
 abbrev pub Calls : ℕ → List Call → List Event → Run → Type 2
 Calls s cs t d = FromStart Run stateOf Started Took Fetches Copies s cs t d
 

@@ -1,6 +1,6 @@
--- What a call on lent memory promises, read off the contract that the prover makes of its clauses. A covered function has `Learnt` for it; a
--- function over a lent record has only the assertion of the program logic, so what is known of a call is that this assertion held where the
--- call ended.
+-- What a call on lent memory promises, read off the contract that the prover makes of its clauses. A covered function has `Learnt` for it;
+-- a function over a lent record has only the assertion of the program logic, so what is known of a call is that this assertion held where
+-- the call ended.
 --
 --   World    == what the program logic leaves open: the resources, and what memory, atoms and routines mean over them
 --   Held w P == the assertion P held, of some resource of the world w

@@ -1,8 +1,8 @@
 -- The run record of the code, and what it stands for in the rules of `Run`.
 --
 --   stepOf, fetchedOf, copiedOf == what the code's calls give, in the rules' words, with document 01's numbers
---   runningPhase, donePhase,
---   closedPhase                 == the phase of a record whose run goes on, of one whose run is done, and of one whose run is closed
+--   runningPhase, donePhase     == the phase of a record whose run goes on, and of one whose run is done
+--   closedPhase                 == the phase of a record that a refusal closed
 --   isSound run                 == the test of a running record: its numbers are within limits, and its products are of the polynomials
 --                                  before its round; nothing is asked of its patterns, counts and answers
 --   mostAsked                   == a number above the questions of any such record

@@ -2,9 +2,10 @@
 // crate `runs`, and what a record stands for in them in specs/Record.
 //
 // No public call has a condition: a record may hold anything, also what no start and no answer could have left. What is tested, and no more:
-// - An answer is taken where the phase is RUNNING, the numbers are in their limits (`in_limits`) and the products kept are below 3^(round − 1). It
-//   is worked out from the patterns, counts and answers as they stand; at a round's end, rows that no round leaves give 10. Else 7.
-// - Rows are served where the phase is DONE and there are at most 64: the patterns and counts as they stand, whatever they are. Else 7.
+// - An answer is taken where the phase is RUNNING, the numbers are in their limits (`in_limits`) and, after round 0, the products kept are below
+//   3^(round − 1); else 7. It is worked out from the patterns, counts and answers as they stand; at a round's end, patterns that do not rise or are
+//   not below 3^(round − 1), and counts of 0 or of more than 64 together, give 10.
+// - Rows are served where the phase is DONE and there are at most 64, else 7: the patterns and counts as they stand, whatever they are.
 // - `asked` gives the number as it stands.
 // A call that gives 7 leaves the record as it was.
 ghost use mathlib.Core.Path.{_≡_};

@@ -22,7 +22,8 @@ use Rattle.rounds.proofs.RowLaws.{times-single}
 use Rattle.rounds.proofs.Realized.{realized-true}
 use Rattle.rounds.proofs.Answers.{Facts, facts, round-length}
 use Rattle.runs.proofs.Phases.{running-not-closed, finished-not-closed, running-not-finished, closed-not-finished}
-use Rattle.runs.proofs.Causes.{OutOfLimits, Cause, limits-take, none-in, fits-in, counts-fit, is-8, is-9, is-10, why-8, why-9, why-10}
+use Rattle.runs.proofs.Causes.{OutOfLimits, Cause, limits-take, none-in, fits-in, counts-fit, is-8, is-9, is-10, why-8, why-9}
+use Rattle.runs.proofs.Causes.{why-10}
 use Rattle.runs.proofs.Invariant.{At, Inv, start-inv, asked-once, going-length, going-fits, going-in}
 use Rattle.rounds.proofs.RoundEnds.{roundRows-right}
 use Rattle.rounds.proofs.Rounds.{at-end, answered-past, end-nonempty, not-ended, rows-oracle, realized-rows, fits-first, fits-take}
@@ -265,7 +266,8 @@ pub demand3-for : (N : ℕ → List Row → List ℤ → Option (List Row)) → 
 demand3-for N right s h calls =
     let S : Story s running [] [] (0 ∷ []) (events N (startOf s) calls) (stateAfter N (startOf s) calls) =
     story N right s h calls (startOf s) [] (0 ∷ []) (start-inv s) in
-    subst (λ (f : Phase). Claim s (ask 0) (0 ∷ given running t) (taken running t) f (stateAfter N (startOf s) calls .total) t) (sym (S .phase))
+    subst (λ (f : Phase). Claim s (ask 0) (0 ∷ given running t) (taken running t) f (stateAfter N (startOf s) calls .total) t)
+    (sym (S .phase))
     (claim s h (stateAfter N (startOf s) calls) (taken running t) (0 ∷ given running t) t [] S refl refl (S .inv))
   where
     t : List Event

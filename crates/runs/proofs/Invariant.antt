@@ -25,8 +25,8 @@ use Rattle.runs.specs.Demand.{heard, asks, Proper, SomeFits, FirstOut, S
 use Rattle.rounds.specs.NextRows.{RightRows}
 use Rattle.rounds.specs.Rounds.{roundOf, Answered, Determined, AtEnd, InOrder}
 use Rattle.rounds.specs.Rows.{Row, patterns, repeated, rowIf, rowsOf, Fits}
-use Rattle.runs.specs.Run.{Step, refused, Phase, running, finished, closed, State, startOf, roundProduct, close, ended, endRound, roundStep}
-use Rattle.runs.specs.Run.{limitOf, firstAnswer, laterAnswer, inRound, inPhase, answerOf}
+use Rattle.runs.specs.Run.{Step, refused, Phase, running, finished, closed, State, startOf, roundProduct, close, ended, endRound}
+use Rattle.runs.specs.Run.{roundStep, limitOf, firstAnswer, laterAnswer, inRound, inPhase, answerOf}
 use Rattle.runs.proofs.Causes.{OutOfLimits, Cause, by-first, by-later, by-counts, one-within, one-outside, later-from, first-in}
 use Rattle.runs.proofs.Causes.{limits-in, limits-take, none-in}
 use Rattle.rounds.proofs.Answers.{Facts, facts, more-rows, query-zero, round-low, round-once, round-length}

@@ -66,7 +66,8 @@ module _ (N : ℕ → List Row → List ℤ → Option (List Row)) where
           → cond b (roundStep N r i ws c) (close N r 9) .1 ≡ refused k → Why r z k (cond b (roundStep N r i ws c) (close N r 9) .0)
       go true t true u e = let x : _≡_ {A = ℕ} 0 1 = cc in absurd (omega arith)
       go true t false u e =
-          end (leb-true (natAbs z) (limitOf r) t) (omega (arith, ltb-false (length ws) (2 * length (r .products)) u)) (N i (r .rows) ws) refl e
+          end (leb-true (natAbs z) (limitOf r) t) (omega (arith, ltb-false (length ws) (2 * length (r .products)) u)) (N i (r .rows) ws)
+          refl e
       go false t c u e =
           why-9 (same-number 9 k e) p (omega (arith, q)) (leb-false (natAbs z) (limitOf r) t) (refl, refl, refl)
 
@@ -106,7 +107,8 @@ module _ (N : ℕ → List Row → List ℤ → Option (List Row)) where
       go true t = absurd (h n (leb-true n mostPoints t) refl)
       go false t = refl
 
-  answer-9-back : (r : State) (z : ℤ) (m : ℕ) → r .phase ≡ running → r .round ≡ m → 0 < m → limitOf r < natAbs z → answerOf N r z .1 ≡ refused 9
+  answer-9-back : (r : State) (z : ℤ) (m : ℕ) → r .phase ≡ running → r .round ≡ m → 0 < m → limitOf r < natAbs z
+      → answerOf N r z .1 ≡ refused 9
   answer-9-back r z zero p q h l = absurd (omega arith)
   answer-9-back r z (suc i) p q h l =
       ap (λ (o : State × Step). o .1) (in-round r z (suc i) p q) ∙ (rw (lt-leb (natAbs z) (limitOf r) l) refl)
@@ -227,7 +229,8 @@ module _ (N : ℕ → List Row → List ℤ → Option (List Row)) (r : State) (
   causes-9 (why-10 e p i q o l m c) = absurd (omega (arith, e))
 
   causes-10 : Why N r z 10 (answerOf N r z .0)
-      → (r .phase ≡ running) × (i : ℕ) × (r .round ≡ suc i) × (natAbs z ≤ limitOf r) × (2 * length (r .products) ≤ suc (length (r .answers)))
+      → (r .phase ≡ running) × (i : ℕ) × (r .round ≡ suc i) × (natAbs z ≤ limitOf r)
+      × (2 * length (r .products) ≤ suc (length (r .answers)))
       × (N i (r .rows) (r .answers ++ (z ∷ [])) ≡ none)
   causes-10 (why-7 e p) = absurd (omega (arith, e))
   causes-10 (why-8 e p q o c) = absurd (omega (arith, e))

@@ -1,5 +1,5 @@
--- The records of a run and what its calls give are sets: of any two proofs that two of them are equal, one is as good as the other. A promise of a
--- lent record is known only so far (it holds, by some proof), and this lets it be used.
+-- The records of a run and what its calls give are sets: of any two proofs that two of them are equal, one is as good as the other. A
+-- promise of a lent record is known only so far (it holds, by some proof), and this lets it be used.
 use mathlib.Core.Path.{_≡_, refl}
 use mathlib.Core.HLevel.{Σ-set}
 use mathlib.Core.List.{List, List·isSet}

@@ -11,11 +11,12 @@ use lib.IntN.{ℤ}
 use lib.Dec.{leb}
 use lib.ListN.{length, getD, drop}
 use Rattle.runs.specs.Demand.{Call, answer, fetch, copy, Event, answered, fetched, copiedTo, stateAfter, events, heard, phaseOf}
-use Rattle.runs.specs.Demand.{numbers, closedBy, takes, taken, asks, given, Proper, Orderly, FetchedFrom, Written, Refused, CopiedFrom, Served, NoRows}
+use Rattle.runs.specs.Demand.{numbers, closedBy, takes, taken, asks, given, Proper, Orderly, FetchedFrom, Written, Refused}
+use Rattle.runs.specs.Demand.{CopiedFrom, Served, NoRows}
 use Rattle.rounds.specs.NextRows.{RightRows}
 use Rattle.rounds.specs.Rows.{Row, IsAt}
-use Rattle.runs.specs.Run.{Step, ask, done, refused, Phase, running, finished, closed, fetchRule, copied, kept, copyRule, State, inPhase}
-use Rattle.runs.specs.Run.{answerOf, fetchOf, copyOf}
+use Rattle.runs.specs.Run.{Step, ask, done, refused, Phase, running, finished, closed, fetchRule, copied, kept, copyRule, State}
+use Rattle.runs.specs.Run.{inPhase, answerOf, fetchOf, copyOf}
 use Rattle.rounds.proofs.Realized.{at-head, at-tail}
 use Rattle.runs.proofs.Phases.{running-not-closed, finished-not-closed}
 use Rattle.runs.proofs.Causes.{Cause}
@@ -56,7 +57,8 @@ no-calls s r zs ps inv =
 -- ---- one event more
 
 -- the number of an answer taken, or of the calls after it
-taken-cause : (s : ℕ) (R′ : List Row) (zs : List ℤ) (ps : List ℕ) (t : List Event) (end : State) (z : ℤ) (x : Step) (f : Phase) → heard running x ≡ f → ((k : ℕ) → x ≡ refused k → Cause s k (zs ++ (z ∷ [])) ps)
+taken-cause : (s : ℕ) (R′ : List Row) (zs : List ℤ) (ps : List ℕ) (t : List Event) (end : State) (z : ℤ) (x : Step) (f : Phase)
+    → heard running x ≡ f → ((k : ℕ) → x ≡ refused k → Cause s k (zs ++ (z ∷ [])) ps)
     → Story s f R′ (zs ++ (z ∷ [])) (ps ++ asks x) t end → (k : ℕ) → numbers x ++ closedBy f t ≡ k ∷ []
     → Cause s k (zs ++ (z ∷ taken f t)) (ps ++ (asks x ++ given f t))
 unfolding numbers heard asks
@@ -71,7 +73,8 @@ taken-cause s R′ zs ps t end z (refused j) f e w S k m =
     let c : j ≡ k = cc in
     rw (a, b, append-nil ps) (w k (ap refused c))
 
-taken-number : (s : ℕ) (R′ : List Row) (zs : List ℤ) (ps : List ℕ) (t : List Event) (end : State) (z : ℤ) (x : Step) (f : Phase) → heard running x ≡ f → Story s f R′ (zs ++ (z ∷ [])) (ps ++ asks x) t end → end .phase ≡ closed
+taken-number : (s : ℕ) (R′ : List Row) (zs : List ℤ) (ps : List ℕ) (t : List Event) (end : State) (z : ℤ) (x : Step) (f : Phase)
+    → heard running x ≡ f → Story s f R′ (zs ++ (z ∷ [])) (ps ++ asks x) t end → end .phase ≡ closed
     → (k : ℕ) × (numbers x ++ closedBy f t ≡ k ∷ [])
 unfolding numbers heard
 taken-number s R′ zs ps t end z (ask α) f e S m = S .number (sym e) m
@@ -284,7 +287,8 @@ module _ (N : ℕ → List Row → List ℤ → Option (List Row)) (right : Righ
       let A : After s zs ps z (answerOf N r z) = answer-running N right s r zs ps z h inv e in
       after-taken s (r .rows) (answerOf N r z .0 .rows) zs ps (events N (answerOf N r z .0) cs) (stateAfter N (answerOf N r z .0) cs) z
       (answerOf N r z .1)
-      (answerOf N r z .0 .phase) (A .phase) (A .proper) (A .cause) (ih (answerOf N r z .0) (zs ++ (z ∷ [])) (ps ++ asks (answerOf N r z .1)) (A .inv))
+      (answerOf N r z .0 .phase) (A .phase) (A .proper) (A .cause)
+      (ih (answerOf N r z .0) (zs ++ (z ∷ [])) (ps ++ asks (answerOf N r z .1)) (A .inv))
 
   answer-call : (z : ℤ) (cs : List Call) → Goes cs → (r : State) (zs : List ℤ) (ps : List ℕ) → Inv s r zs ps
       → Story s (r .phase) (r .rows) zs ps (answered z (answerOf N r z .1) ∷ events N (answerOf N r z .0) cs)

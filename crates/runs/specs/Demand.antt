@@ -207,7 +207,8 @@ pub record IsKey (s : ℕ) (ps : List ℕ) (zs : List ℤ) (total : ℕ) (t : Li
   -- "With s polynomials and r patterns in the key, the question total of a done run is at most 2rs+1"
   pub few : total ≤ 2 * length K * s + 1
 
--- of the step x of the start, and the products ps asked, the answers zs taken, the phase f and the question total at the end of the events t
+-- of the step x of the start, and of the products ps asked, the answers zs taken, the phase f and the question total at the end of the
+-- events t
 pub record Claim (s : ℕ) (x : Step) (ps : List ℕ) (zs : List ℤ) (f : Phase) (total : ℕ) (t : List Event) : Type 0 where
   -- "Round 0 asks product 0"
   pub starts : x ≡ ask 0

@@ -102,7 +102,8 @@ pub record Asked (c : Run) (total : ℕ) : Type 2 where
   pub args : Args asked.signature lifetimes
   pub ends : AtExit asked.ended lifetimes
   pub kept : Held world
-      (asked.clauses (world .resources) (world .heap) (world .atoms) (world .memory) (world .routines) lifetimes args .ensures tt total ends)
+      (asked.clauses (world .resources) (world .heap) (world .atoms) (world .memory) (world .routines) lifetimes args .ensures tt total
+      ends)
   pub was : now (args .0) ≡ c
 
 -- ---- the plain numbers stand for what they were made of

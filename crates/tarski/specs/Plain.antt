@@ -1,8 +1,9 @@
 -- What the plain numbers that the library's calls give stand for, in the words of the rules of a run. `Flat` goes the other way.
 --
---   stepFrom t         == the step: kind 0 asks the product, 1 is done, any other refuses with the number
---   fetchFrom t        == the row fetched, or the number that refuses, which is not 0
---   copyFrom t a b     == how many rows were copied, or the number that refuses, which is not 0, and the two slices a and b as they are left
+--   stepFrom t     == the step: kind 0 asks the product, 1 is done, any other refuses with the number
+--   fetchFrom t    == the row fetched where the refusal is 0, else the number that refuses
+--   copiedFrom t   == how many rows were copied where the refusal is 0, else the number that refuses
+--   copyFrom t a b == the same, with the two slices a and b as they are left
 use mathlib.Core.Bool.{cond}
 use mathlib.Core.List.{List}
 use Prim.Native.Nat.{ℕ}

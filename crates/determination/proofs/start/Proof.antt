@@ -68,7 +68,8 @@ returns-3 c =
     let t = first-sound r s g h (k .0) (k .2) (k .3) (k .4) (k .5) (k .6) in
     record {
       by-rules =
-          rw (le-leb 1 s g, le-leb s 8 h, running-is r (running-to r (k .1) t)) (fresh-running r s (k .0) (k .2) (k .3) (k .4) (k .5) (k .6));
+          rw (le-leb 1 s g, le-leb s 8 h, running-is r (running-to r (k .1) t))
+          (fresh-running r s (k .0) (k .2) (k .3) (k .4) (k .5) (k .6));
       closes = λ j e. let x : _≡_ {A = ℕ} 0 1 = cc in absurd (omega arith);
     }
 
