@@ -94,13 +94,22 @@ by-rules c z c′ x g = (ap (λ (p : State × Step). p .0) (g .by-rules), ap (λ
 by-rules-prop : (c : Run) (z : ℤ) (c′ : Run) (x : Step) → IsProp (ByRules c z c′ x)
 by-rules-prop c z c′ x = ×-prop (state-set _ _) (step-set _ _)
 
-keeps-answers : (c : Run) (z : ℤ) (c′ : Run) (x : Step) → Took c z c′ x → ByRules c z c′ x
-keeps-answers c z c′ x (by-value u) = rw (u .left, u .gave) (by-rules c z (u .result .run) (stepOf (u .result .step)) (u .kept))
-keeps-answers c z c′ x (through-lent u) = rw (u .left, u .gave) (by-rules c z (u .result .run) (stepOf (u .result .step)) (u .kept))
-keeps-answers c z c′ x (on-lent u) =
+keeps-value : (c : Run) (z : ℤ) (c′ : Run) (x : Step) → ByValue c z c′ x → ByRules c z c′ x
+keeps-value c z c′ x u = rw (u .left, u .gave) (by-rules c z (u .result .run) (stepOf (u .result .step)) (u .kept))
+
+keeps-through : (c : Run) (z : ℤ) (c′ : Run) (x : Step) → Through c z c′ x → ByRules c z c′ x
+keeps-through c z c′ x u = rw (u .left, u .gave) (by-rules c z (u .result .run) (stepOf (u .result .step)) (u .kept))
+
+keeps-lent : (c : Run) (z : ℤ) (c′ : Run) (x : Step) → OnLent c z c′ x → ByRules c z c′ x
+keeps-lent c z c′ x u =
     rw (← u .was, ← u .left, u .gave)
     (fact-held (u .world) (AnswerGives (now (u .before)) z (now (u .after)) (stepOf (u .result)))
     (ByRules (now (u .before)) z (now (u .after)) (stepOf (u .result))) (by-rules-prop _ _ _ _) (by-rules _ _ _ _) (u .kept))
+
+keeps-answers : (c : Run) (z : ℤ) (c′ : Run) (x : Step) → Took c z c′ x → ByRules c z c′ x
+keeps-answers c z c′ x (by-value u) = keeps-value c z c′ x u
+keeps-answers c z c′ x (through-lent u) = keeps-through c z c′ x u
+keeps-answers c z c′ x (on-lent u) = keeps-lent c z c′ x u
 
 keeps-fetches : (c : Run) (p : ℕ) (x : Fetch) → Fetches c p x → x ≡ fetchOf (stateOf c) p
 keeps-fetches c p x u = u .gave ∙ u .kept
