@@ -19,6 +19,24 @@ static int wrong = 0, tried = 0;
 static uint8_t card[TARSKI_LONGEST_CARD + 1];
 static size_t length;
 
+/* The types of the calls, said again: a declaration with parameters in another order does not compile here. */
+static struct tarski_card (*check)(const uint8_t *, size_t) = tarski_check;
+static struct tarski_number (*volatile value_of)(const uint8_t *, size_t, size_t, int8_t) = tarski_value;
+static struct tarski_number (*volatile query_of)(const uint8_t *, size_t, struct tarski_product) = tarski_query;
+static struct tarski_opened (*open_card)(const uint8_t *, size_t) = tarski_open;
+static struct tarski_number (*volatile ask_of)(const struct tarski_opened *, struct tarski_product) = tarski_ask;
+static uint16_t (*adapted)(size_t, const struct tarski_pattern *, size_t, struct tarski_product *, size_t) = tarski_adapted;
+static uint16_t (*solve)(size_t, const struct tarski_pattern *, size_t, const int64_t *, size_t, int64_t *, size_t) = tarski_solve;
+static struct tarski_step (*start)(struct tarski_run *, size_t) = tarski_start;
+static struct tarski_step (*answer)(struct tarski_run *, int64_t) = tarski_answer;
+static size_t (*asked_by)(const struct tarski_run *) = tarski_asked;
+static struct tarski_row (*row_of)(const struct tarski_run *, size_t) = tarski_row;
+static struct tarski_copied (*rows_of)(const struct tarski_run *, struct tarski_pattern *, size_t, uint16_t *, size_t) = tarski_rows;
+
+static void types(void) {
+    SEE(check && value_of && query_of && open_card && ask_of && adapted && solve && start && answer && asked_by && row_of && rows_of);
+}
+
 static struct tarski_product product(unsigned number) {
     struct tarski_product made;
     made.number = (uint16_t)number;
@@ -89,27 +107,18 @@ static void queries(void) {
 }
 
 /* A one-field struct is passed like its field, and what a register holds above its 16 bits has no effect: the same calls with such bits. */
-typedef struct tarski_number (*query_call)(const uint8_t *, size_t, struct tarski_product);
 typedef struct tarski_number (*query_wide)(const uint8_t *, size_t, uint32_t);
-typedef struct tarski_number (*ask_call)(const struct tarski_opened *, struct tarski_product);
 typedef struct tarski_number (*ask_wide)(const struct tarski_opened *, uint32_t);
-typedef struct tarski_number (*value_call)(const uint8_t *, size_t, size_t, int8_t);
 typedef struct tarski_number (*value_wide)(const uint8_t *, size_t, size_t, uint32_t);
 
 static void registers(void) {
-    static volatile query_call called_query = tarski_query;
-    static volatile ask_call called_ask = tarski_ask;
-    static volatile value_call called_value = tarski_value;
-    query_call narrow_query = called_query;
-    ask_call narrow_ask = called_ask;
-    value_call narrow_value = called_value;
     query_wide query;
     ask_wide ask;
     value_wide value;
     struct tarski_opened opened = tarski_open(card, length);
-    memcpy(&query, &narrow_query, sizeof query);
-    memcpy(&ask, &narrow_ask, sizeof ask);
-    memcpy(&value, &narrow_value, sizeof value);
+    memcpy(&query, (const void *)&query_of, sizeof query);
+    memcpy(&ask, (const void *)&ask_of, sizeof ask);
+    memcpy(&value, (const void *)&value_of, sizeof value);
     SEE(query(card, length, 0xabcd0009u).number == -1 && query(card, length, 0xabcd0009u).refusal == 0);
     SEE(ask(&opened, 0xabcd0009u).number == -1 && ask(&opened, 0xabcd001bu).refusal == TARSKI_WRONG_PRODUCT);
     SEE(value(card, length, 1, 0xabcdef05u).number == 6 && value(card, length, 1, 0x000000fbu).number == -4);
@@ -247,6 +256,7 @@ int main(int count, char **words) {
     SEE(length == 42);
     SEE(strcmp(TARSKI_VERSION, "0.1.0") == 0 && TARSKI_VERSION_MAJOR == 0 && TARSKI_VERSION_MINOR == 1 && TARSKI_VERSION_PATCH == 0);
     if (!wrong) {
+        types();
         cards();
         queries();
         registers();
