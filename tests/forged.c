@@ -75,7 +75,8 @@ static unsigned forged_card(void) {
     }
     unsigned product = (unsigned)draw(card.polynomials <= 8 ? power(card.polynomials) + 2 : 65536);
     unsigned refusal = opened_refusal(&card, product);
-    struct tarski_number got = tarski_ask(&card, (uint16_t)product);
+    struct tarski_product asked = {(uint16_t)product};
+    struct tarski_number got = tarski_ask(&card, asked);
     same("refusal of an opened card", refusal, got.refusal);
     same("query of an opened card", refusal ? 0 : opened_query(&card, product), got.number);
     return refusal;
@@ -125,10 +126,11 @@ static void check_rows(const struct tarski_run *run) {
     struct tarski_row row = tarski_row(run, position);
     unsigned refusal = !done(run) ? 7 : position >= run->rows ? 14 : 0;
     same("refusal of a row", refusal, row.refusal);
-    same("pattern of a row", refusal ? 0 : run->patterns[position], row.pattern);
+    same("pattern of a row", refusal ? 0 : run->patterns[position], row.pattern.number);
     same("count of a row", refusal ? 0 : run->counts[position], row.count);
 
-    uint16_t patterns[80], counts[80];
+    struct tarski_pattern patterns[80];
+    uint16_t counts[80];
     memset(patterns, 0x5a, sizeof patterns);
     memset(counts, 0xa5, sizeof counts);
     size_t first = draw(80), second = draw(80);
@@ -138,7 +140,7 @@ static void check_rows(const struct tarski_run *run) {
     same("rows copied", refusal ? 0 : (long long)run->rows, (long long)copied.rows);
     for (size_t k = 0; k < 80; k++) {
         int kept = refusal || k >= run->rows;
-        same("pattern copied", kept ? 0x5a5a : run->patterns[k], patterns[k]);
+        same("pattern copied", kept ? 0x5a5a : run->patterns[k], patterns[k].number);
         same("count copied", kept ? 0xa5a5 : run->counts[k], counts[k]);
     }
     same("questions", (long long)run->asked, (long long)tarski_asked(run));
@@ -152,23 +154,23 @@ static unsigned check_answer(struct tarski_run *run) {
     struct tarski_step step = tarski_answer(run, answer);
     if (!runs(&before)) {
         same("kind of a late answer", TARSKI_REFUSED, step.kind);
-        same("number of a late answer", 7, step.value);
+        same("number of a late answer", 7, step.value.refusal);
         same("record of a late answer", 0, memcmp(&before, run, sizeof before));
         return 7;
     }
     int first = before.round == 0, outside = answer < -(int64_t)before.points || answer > (int64_t)before.points;
     if (step.kind == TARSKI_REFUSED) {
-        if (step.value == 8 ? !(first && (answer < 0 || answer > 64)) : step.value == 9 ? !(!first && outside) : !(step.value == 10 && !first && !outside))
-            differs("cause of a refusal", answer, step.value);
+        if (step.value.refusal == 8 ? !(first && (answer < 0 || answer > 64)) : step.value.refusal == 9 ? !(!first && outside) : !(step.value.refusal == 10 && !first && !outside))
+            differs("cause of a refusal", answer, step.value.refusal);
         same("phase of a closed record", 2, run->phase);
         same("rows of a closed record", 0, (long long)run->rows);
         same("answers of a closed record", 0, (long long)run->answered);
-        return step.value;
+        return step.value.refusal;
     }
     if (first ? answer < 0 || answer > 64 : outside)
         differs("an answer outside its limits", answer, step.kind);
-    if (step.kind == TARSKI_ASK && step.value >= power(before.polynomials))
-        differs("product to ask", 0, step.value);
+    if (step.kind == TARSKI_ASK && step.value.product.number >= power(before.polynomials))
+        differs("product to ask", 0, step.value.product.number);
     same("questions counted", (long long)before.asked + 1, (long long)run->asked);
     return step.kind;
 }
