@@ -99,7 +99,8 @@ module _ (s : ℕ) (L out : List ℕ) where
       rooms : Counted s → isPatterns s L ≡ true → Dec (length out < length L) → Gives s L out (listOf s L out .0) (listOf s L out .1)
       rooms h t (yes q) = shown _ (refused-short s L out (λ z. let x = h .0 in omega arith) (h .1) t q) (by-15 h (patterns-from s L t) q)
       rooms h t (no q) =
-          shown _ (written s L out (λ z. let x = h .0 in omega arith) (h .1) t (omega arith)) (by-list h (patterns-from s L t) (omega arith))
+          shown _ (written s L out (λ z. let x = h .0 in omega arith) (h .1) t (omega arith))
+          (by-list h (patterns-from s L t) (omega arith))
 
       lists : Counted s → (b : Bool) → isPatterns s L ≡ b → Gives s L out (listOf s L out .0) (listOf s L out .1)
       lists h true t = rooms h t (decLt (length out) (length L))

@@ -2,8 +2,9 @@
 --
 --   Counted s               == there are 1 to 8 polynomials
 --   Patterns s L            == L is a rising list of at most 64 patterns of s polynomials
---   Gives s L out o out′    == a call on s, L and the slice out that answers o and leaves out′: 3, 11 and 15 exactly for their causes in this
---                              order, each leaving the slice as it was; else the adapted list of L at the front, and the rest as it was
+--   Gives s L out o out′    == a call on s, L and the slice out that answers o and leaves out′: 3, 11 and 15 exactly for their causes in
+--                              this order, each leaving the slice as it was; else the adapted list of L at the front, and the rest as it
+--                              was
 use mathlib.Core.Path.{_≡_}
 use mathlib.Core.Logic.{_↔_, _⊎_}
 use mathlib.Core.List.{List}
