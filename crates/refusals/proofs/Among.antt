@@ -1,4 +1,4 @@
--- Membership of a number in a list: what a search keeps, and that it is never of the number 0 in a card's numbers.
+-- Membership of a number in a list: what a search from the front keeps, and what it finds.
 use mathlib.Core.Path.{_≡_, refl, sym, _∙_}
 use mathlib.Core.Bool.{Bool, true, false, _||_}
 use mathlib.Core.List.{List, [], _∷_}
@@ -9,7 +9,7 @@ use borrow.Author.Tests.{eq-eqb, ne-eqb}
 use lib.Dec.{eqb}
 use lib.ListN.{length, getD, drop, drop-of-length-le}
 use lib.Seq.{drop-cons}
-use Rattle.refusals.specs.Numbers.{isAmong, cardNumbers}
+use Rattle.refusals.specs.Numbers.{isAmong}
 
 module _ (m : ℕ) (l : List ℕ) (i : ℕ) where
   pub among-here : i < length l → getD l i 0 ≡ m → isAmong m l ≡ isAmong m (drop i l) → true ≡ isAmong m l
