@@ -93,7 +93,8 @@ module _ (s : ℕ) (L out : List ℕ) where
   shown : (g : Listed × List ℕ) → listOf s L out ≡ g → Gives s L out (g .0) (g .1) → Gives s L out (listOf s L out .0) (listOf s L out .1)
   shown g e d = rw e d
 
-  list-gives : Gives s L out (listOf s L out .0) (listOf s L out .1)
+  -- the definition
+  pub list-gives : Gives s L out (listOf s L out .0) (listOf s L out .1)
   list-gives = counts (decLt 0 s) (decLt 8 s)
     where
       rooms : Counted s → isPatterns s L ≡ true → Dec (length out < length L) → Gives s L out (listOf s L out .0) (listOf s L out .1)

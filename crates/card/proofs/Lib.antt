@@ -8,4 +8,5 @@ pub mod Sound
 pub mod Longest
 pub mod Positions
 pub mod Listed
+pub mod Calls
 pub mod Edges

@@ -2,3 +2,4 @@ pub mod Card
 pub mod Sound
 pub mod Answers
 pub mod Longest
+pub mod Claim

@@ -1,15 +1,17 @@
 -- What a call for the whole printout gives (document 01, "Cause, and what the caller gets").
 --
---   mostLines       == 658, the most lines of a printout: 593 questions, 64 rows and the last line
---   mostText        == the room that so many lines need at most
---   placed t out    == where the text t fits the slice out: how many bytes it has, and the slice with t at its front, "Longer output slices
---                      keep what lies past the result"; else 15, too short, and the slice as it was
---   writtenOf c out == what the call for the printout of the card c gives, and the slice out after it
+--   mostLines           == 658, the most lines of a printout: 593 questions, 64 rows and the last line
+--   mostText            == the room that so many lines need at most
+--   placed t out        == where the text t fits the slice out: how many bytes it has, and the slice with t at its front, "Longer output slices
+--                          keep what lies past the result"; else 15, too short, and the slice as it was
+--   writtenOf c out     == what the call for the printout of the card c gives, and the slice out after it
+--   Placed t out o out′ == the same of a text t apart from that definition: a call with the slice out that gives o and leaves out′
+use mathlib.Core.Path.{_≡_}
 use mathlib.Core.Bool.{cond}
 use mathlib.Core.List.{List, _++_}
-use Prim.Native.Nat.{ℕ, _+_, _*_}
+use Prim.Native.Nat.{ℕ, _+_, _*_, _<_, _≤_}
 use lib.Dec.{leb}
-use lib.ListN.{length, drop}
+use lib.ListN.{length, take, drop}
 use Rattle.refusals.specs.Numbers.{tooShort}
 use Rattle.refusals.specs.Limits.{mostPoints, mostQuestions}
 use Rattle.lines.specs.Text.{lineRoom}
@@ -28,3 +30,9 @@ placed t out = cond (leb (length t) (length out)) (written.Bytes (length t), t +
 
 abbrev pub writtenOf : List ℕ → List ℕ → code.Written × List ℕ
 writtenOf c out = placed (printoutOf c) out
+
+pub record Placed (t out : List ℕ) (o : code.Written) (out′ : List ℕ) : Type 0 where
+  pub short : length out < length t → (o ≡ written.Refused 15) × (out′ ≡ out)
+  pub whole : length t ≤ length out → o ≡ written.Bytes (length t)
+  pub front : length t ≤ length out → take (length t) out′ ≡ t
+  pub rest : length t ≤ length out → drop (length t) out′ ≡ drop (length t) out

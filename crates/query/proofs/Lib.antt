@@ -2,4 +2,5 @@ pub mod Words
 pub mod Counting
 pub mod Opening
 pub mod Answers
+pub mod Calls
 pub mod Edges

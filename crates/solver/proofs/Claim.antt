@@ -224,10 +224,12 @@ module _ (s : ℕ) (L : List ℕ) (xs out : List ℤ) (r : Solved) (left : List 
         numbers = to-numbers w;
       }
 
+-- the definition
+pub solve-claims : (s : ℕ) (L : List ℕ) (xs out : List ℤ) → SolverClaim s L xs out (solveOf s L xs out .0) (solveOf s L xs out .1)
+solve-claims s L xs out = claim-of s L xs out (solveOf s L xs out .0) (solveOf s L xs out .1) (case-of s L xs out)
+
 -- every call of `solve`, on any arguments
 pub solver-claim : (κs : Lfts 3) (s : ℕ) (patterns : RefT (List ℕ)) (numbers out out′ : RefT (List ℤ)) (r : Solved)
     → solve.Learnt κs (s, (patterns, (numbers, (out, tt)))) r (s, (patterns, (numbers, (out′, tt))))
     → SolverClaim s (now patterns) (now numbers) (now out) r (now out′)
-solver-claim κs s patterns numbers out out′ r k =
-    rw (k .0, k .1) (claim-of s (now patterns) (now numbers) (now out) (solveOf s (now patterns) (now numbers) (now out) .0)
-    (solveOf s (now patterns) (now numbers) (now out) .1) (case-of s (now patterns) (now numbers) (now out)))
+solver-claim κs s patterns numbers out out′ r k = rw (k .0, k .1) (solve-claims s (now patterns) (now numbers) (now out))

@@ -1,0 +1,129 @@
+-- DEMAND 2 of the library for C, and the other calls on cards and lists: each gives what the claims say (specs/Claim, and those of the crates
+-- `adapted_list` and `solver`). A call is known by its contract alone, as `Learnt` or, on an opened card that is lent, as an assertion that
+-- held where the call ended (`Held`), so that a weaker promise of any of them breaks the theorem.
+use mathlib.Core.Path.{_≡_, refl}
+use mathlib.Core.HLevel.{Σ-set}
+use mathlib.Core.Bool.{true, false}
+use mathlib.Core.Logic.{_⊎_, inl, inr}
+use mathlib.Core.List.{List}
+use Prim.Native.Nat.{ℕ, zero, suc}
+use native.Mathlib.Nat.{ℕ-set}
+use native.Mathlib.Omega.{arith}
+use contract.Lifetimes.{Lfts}
+use denote.Ref.{RefT, now}
+use denote.Triple.Entry.{Args}
+use denote.Triple.Clauses.{AtExit}
+use ghost.Sets.{retract-set}
+use lib.IntN.{ℤ, ℤ-set}
+use Rattle.refusals.specs.Numbers.{isAmong}
+use Rattle.card.specs.Answers.{reading, valueAnswer}
+use Rattle.card.proofs.Calls.{gives-all, gives-at, gives-through}
+use Rattle.query.specs.Query.{queryAnswer}
+use Rattle.query.specs.Opened.{openedAnswer}
+use Rattle.query.specs.declared.Opened.{Opened}
+use Rattle.query.proofs.Opening.{answer-opened}
+use Rattle.query.proofs.Calls.{answer-gives}
+use Rattle.adapted_list.specs.Listing.{listOf}
+use Rattle.adapted_list.specs.Claim.{Gives}
+use Rattle.adapted_list.specs.declared.Listed.{Listed}
+use Rattle.adapted_list.specs.declared.Listed.the-variants as of-list
+use Rattle.adapted_list.proofs.Calls.{list-gives}
+use Rattle.solver.specs.Solving.{solveOf}
+use Rattle.solver.specs.Claim.{SolverClaim}
+use Rattle.solver.specs.declared.Solved.{Solved}
+use Rattle.solver.specs.declared.Solved.the-variants as of-solver
+use Rattle.solver.proofs.Claim.{solve-claims}
+use Rattle.determination.proofs.Worlds.{World, Held, fact-held}
+use Rattle.tarski.specs.declared.Checked.{Checked}
+use Rattle.tarski.specs.declared.Number.{Number}
+use Rattle.tarski.specs.Flat.{cardOf, valueOf, numberOf, listRefusalOf, refusalOf}
+use Rattle.tarski.specs.Plain.{listedFrom, solvedFrom}
+use Rattle.tarski.specs.Claim.{CheckGives, ValueGives, QueryGives}
+use Rattle.tarski.proofs.tarski_check.Reads as check
+use Rattle.tarski.proofs.tarski_value.Reads as evaluate
+use Rattle.tarski.proofs.tarski_query.Reads as query
+use Rattle.tarski.proofs.tarski_open.Reads as open-card
+use Rattle.tarski.proofs.tarski_ask as ask
+use Rattle.tarski.proofs.tarski_adapted.Reads as adapted
+use Rattle.tarski.proofs.tarski_solve.Reads as solve
+
+-- ---- cards
+
+query-gives : (c : List ℕ) (α : ℕ) → QueryGives c α (numberOf (queryAnswer c α))
+unfolding numberOf
+query-gives c α = gives-through numberOf (answer-gives c α .by-values)
+
+number-set : IsSet Number
+number-set = retract-set {B = ℤ × ℕ} (λ n. (n .number, n .refusal)) (λ t. record { number = t .0; refusal = t .1 }) (λ n. refl)
+    (Σ-set ℤ-set (λ _. ℕ-set))
+
+-- a call of `tarski_ask` on the opened card k, by its contract
+pub record Asked (k : Opened) (α : ℕ) (o : Number) : Type 2 where
+  pub world : World
+  pub lifetimes : Lfts 1
+  pub args : Args ask.signature lifetimes
+  pub ends : AtExit ask.ended lifetimes
+  pub kept : Held world
+      (ask.clauses (world .resources) (world .heap) (world .atoms) (world .memory) (world .routines) lifetimes args .ensures tt o ends)
+  pub was : now (args .0) ≡ k
+  pub product : args .1 .0 ≡ α
+
+module _ (κs : Lfts 1) (card : RefT (List ℕ)) where
+  pub library-check : (o : Checked) → check.Learnt κs (card, tt) o (card, tt) → CheckGives (now card) o
+  unfolding cardOf reading
+  library-check o e = rw e (gives-through cardOf (gives-all (now card) _ _))
+
+  pub library-value : (j : ℕ) (x : ℤ) (o : Number) → evaluate.Learnt κs (card, (j, (x, tt))) o (card, (j, (x, tt)))
+      → ValueGives (now card) j x o
+  unfolding valueOf valueAnswer
+  library-value j x o e = rw e (gives-through valueOf (gives-at (now card) _ _ j))
+
+  -- DEMAND 2, its first sentence: of a query in one call, and of one on a card that was opened
+  pub demand2-library-query : (α : ℕ) (o : Number) → query.Learnt κs (card, (α, tt)) o (card, (α, tt)) → QueryGives (now card) α o
+  demand2-library-query α o e = rw e (query-gives (now card) α)
+
+  pub demand2-library-ask : (k : Opened) (α : ℕ) (o : Number) → open-card.Learnt κs (card, tt) k (card, tt) → Asked k α o
+      → QueryGives (now card) α o
+  demand2-library-ask k α o e a = rw (answered a, e, answer-opened (now card) α) (query-gives (now card) α)
+    where
+      answered : Asked k α o → o ≡ numberOf (openedAnswer k α)
+      answered a =
+          rw (← a .was, ← a .product)
+          (fact-held (a .world) (o ≡ numberOf (openedAnswer (now (a .args .0)) (a .args .1 .0))) _ (number-set _ _) (λ h. h) (a .kept))
+
+-- ---- adapted lists, and the solver
+
+list-back : (a : Listed) → (a ≡ of-list.Refused 0 → ⊥) → listedFrom (listRefusalOf a) ≡ a
+unfolding listedFrom listRefusalOf
+list-back of-list.Written h = refl
+list-back (of-list.Refused zero) h = absurd (h refl)
+list-back (of-list.Refused (suc k)) h = refl
+
+solve-back : (a : Solved) → (a ≡ of-solver.Refused 0 → ⊥) → solvedFrom (refusalOf a) ≡ a
+unfolding solvedFrom refusalOf
+solve-back of-solver.Found h = refl
+solve-back (of-solver.Refused zero) h = absurd (h refl)
+solve-back (of-solver.Refused (suc k)) h = refl
+
+pub library-adapted : (κs : Lfts 2) (s : ℕ) (patterns out out′ : RefT (List ℕ)) (r : ℕ)
+    → adapted.Learnt κs (s, (patterns, (out, tt))) r (s, (patterns, (out′, tt))) → Gives s (now patterns) (now out) (listedFrom r) (now out′)
+library-adapted κs s patterns out out′ r (e, f) =
+    let g = list-gives s (now patterns) (now out) in
+    rw (e, f, list-back (listOf s (now patterns) (now out) .0) (λ z. numbered (g .no-other 0 z))) g
+  where
+    numbered : (_≡_ {A = ℕ} 0 3) ⊎ (_≡_ {A = ℕ} 0 11) ⊎ (_≡_ {A = ℕ} 0 15) → ⊥
+    numbered (inl x) = omega (arith, x)
+    numbered (inr (inl x)) = omega (arith, x)
+    numbered (inr (inr x)) = omega (arith, x)
+
+-- DEMAND 2, its second sentence
+pub demand2-library-solve : (κs : Lfts 3) (s : ℕ) (patterns : RefT (List ℕ)) (numbers out out′ : RefT (List ℤ)) (r : ℕ)
+    → solve.Learnt κs (s, (patterns, (numbers, (out, tt)))) r (s, (patterns, (numbers, (out′, tt))))
+    → SolverClaim s (now patterns) (now numbers) (now out) (solvedFrom r) (now out′)
+unfolding isAmong
+demand2-library-solve κs s patterns numbers out out′ r (e, f) =
+    let g = solve-claims s (now patterns) (now numbers) (now out) in
+    rw (e, f, solve-back (solveOf s (now patterns) (now numbers) (now out) .0) (λ z. numbered (g .numbers 0 z .stands))) g
+  where
+    numbered : false ≡ true → ⊥
+    numbered x = let y : _≡_ {A = ℕ} 0 1 = cc in omega arith
