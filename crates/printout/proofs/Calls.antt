@@ -70,4 +70,5 @@ placed-is t out = record {
 pub code-printout : (κs : Lfts 2) (card out out′ : RefT (List ℕ)) (o : Written)
     → printout.Learnt κs (card, (out, tt)) o (card, (out′, tt)) → Placed (printoutOf (now card)) (now out) o (now out′)
 code-printout κs card out out′ o e =
-    subst (λ (p : Written × List ℕ). Placed (printoutOf (now card)) (now out) (p .0) (p .1)) (sym e) (placed-is (printoutOf (now card)) (now out))
+    subst (λ (p : Written × List ℕ). Placed (printoutOf (now card)) (now out) (p .0) (p .1)) (sym e)
+    (placed-is (printoutOf (now card)) (now out))

@@ -2,8 +2,8 @@
 --
 --   mostLines           == 658, the most lines of a printout: 593 questions, 64 rows and the last line
 --   mostText            == the room that so many lines need at most
---   placed t out        == where the text t fits the slice out: how many bytes it has, and the slice with t at its front, "Longer output slices
---                          keep what lies past the result"; else 15, too short, and the slice as it was
+--   placed t out        == where the text t fits the slice out: how many bytes it has, and the slice with t at its front, "Longer output
+--                          slices keep what lies past the result"; else 15, too short, and the slice as it was
 --   writtenOf c out     == what the call for the printout of the card c gives, and the slice out after it
 --   Placed t out o out′ == the same of a text t apart from that definition: a call with the slice out that gives o and leaves out′
 use mathlib.Core.Path.{_≡_}

@@ -1,6 +1,6 @@
--- DEMAND 2 of the library for C, and the other calls on cards and lists: each gives what the claims say (specs/Claim, and those of the crates
--- `adapted_list` and `solver`). A call is known by its contract alone, as `Learnt` or, on an opened card that is lent, as an assertion that
--- held where the call ended (`Held`), so that a weaker promise of any of them breaks the theorem.
+-- DEMAND 2 of the library for C, and the other calls on cards and lists: each gives what the claims say (specs/Claim, and those of the
+-- crates `adapted_list` and `solver`). A call is known by its contract alone, as `Learnt` or, on an opened card that is lent, as an
+-- assertion that held where the call ended (`Held`), so that a weaker promise of any of them breaks the theorem.
 use mathlib.Core.Path.{_≡_, refl}
 use mathlib.Core.HLevel.{Σ-set}
 use mathlib.Core.Bool.{true, false}
@@ -106,7 +106,8 @@ solve-back (of-solver.Refused zero) h = absurd (h refl)
 solve-back (of-solver.Refused (suc k)) h = refl
 
 pub library-adapted : (κs : Lfts 2) (s : ℕ) (patterns out out′ : RefT (List ℕ)) (r : ℕ)
-    → adapted.Learnt κs (s, (patterns, (out, tt))) r (s, (patterns, (out′, tt))) → Gives s (now patterns) (now out) (listedFrom r) (now out′)
+    → adapted.Learnt κs (s, (patterns, (out, tt))) r (s, (patterns, (out′, tt)))
+    → Gives s (now patterns) (now out) (listedFrom r) (now out′)
 library-adapted κs s patterns out out′ r (e, f) =
     let g = list-gives s (now patterns) (now out) in
     rw (e, f, list-back (listOf s (now patterns) (now out) .0) (λ z. numbered (g .no-other 0 z))) g

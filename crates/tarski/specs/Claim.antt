@@ -1,13 +1,13 @@
--- What the library's calls on cards must give, as plain numbers: the claims of the crates `card` and `query`, with a refusal number beside the
--- result, 0 where nothing is refused, and 0 for the result where something is. That the calls keep them, known by their contracts alone, is
--- proofs/DemandTwo.antt, with the claims on adapted lists and on the solver.
+-- What the library's calls on cards must give, as plain numbers: the claims of the crates `card` and `query`, with a refusal number beside
+-- the result, 0 where nothing is refused, and 0 for the result where something is. That the calls keep them, known by their contracts
+-- alone, is proofs/DemandTwo.antt, with the claims on adapted lists and on the solver.
 --
---   noNumber k           == a value or a query that is refused by the number k
---   aNumber z            == the value or the query z
---   CheckGives c o       == `tarski_check` on the card c: s and n
---   ValueGives c j x o   == `tarski_value`: the value of polynomial j at x, or 14
---   QueryGives c α o     == `tarski_query`, and `tarski_ask` on the card opened: the sum over the points of the sign of the product's value,
---                           or 13
+--   noNumber k         == a value or a query that is refused by the number k
+--   aNumber z          == the value or the query z
+--   CheckGives c o     == `tarski_check` on the card c: s and n
+--   ValueGives c j x o == `tarski_value`: the value of polynomial j at x, or 14
+--   QueryGives c α o   == `tarski_query`, and `tarski_ask` on the card opened: the sum over the points of the sign of the product's
+--                         value, or 13
 use mathlib.Core.List.{List}
 use Prim.Native.Nat.{ℕ, _^_, _<_}
 use lib.IntN.{ℤ, pos}
