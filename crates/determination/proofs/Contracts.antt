@@ -111,7 +111,7 @@ keeps-answers c z c′ x (by-value u) = keeps-value c z c′ x u
 keeps-answers c z c′ x (through-lent u) = keeps-through c z c′ x u
 keeps-answers c z c′ x (on-lent u) = keeps-lent c z c′ x u
 
-keeps-fetches : (c : Run) (p : ℕ) (x : Fetch) → Fetches c p x → x ≡ fetchOf (stateOf c) p
+pub keeps-fetches : (c : Run) (p : ℕ) (x : Fetch) → Fetches c p x → x ≡ fetchOf (stateOf c) p
 keeps-fetches c p x u = u .gave ∙ u .kept
 
 -- the two slices lent, as they were and as they are left
@@ -127,7 +127,7 @@ pub record Copies (c : Run) (a b : List ℕ) (x : Copy) : Type 2 where
   pub lent-counts : now counts ≡ b
   pub gave : x ≡ record { result = copiedOf result; patternsLeft = now patterns′; countsLeft = now counts′ }
 
-keeps-copies : (c : Run) (a b : List ℕ) (x : Copy) → Copies c a b x → x ≡ copyOf (stateOf c) a b
+pub keeps-copies : (c : Run) (a b : List ℕ) (x : Copy) → Copies c a b x → x ≡ copyOf (stateOf c) a b
 keeps-copies c a b x u = u .gave ∙ u .kept ∙ ap₂ (λ (p q : List ℕ). copyOf (stateOf c) p q) (u .lent-patterns) (u .lent-counts)
 
 -- the contracts keep the rules

@@ -9,3 +9,4 @@ pub mod Serves
 pub mod Rounds
 pub mod Worlds
 pub mod Contracts
+pub mod DemandOne

@@ -148,6 +148,16 @@ fetch-rule-14 finished R p = (λ e. (refl, go (ltb p (length R)) refl e), λ h. 
     go false t e = omega (arith, ltb-false p (length R) t)
 fetch-rule-14 closed R p = (λ e. let x : _≡_ {A = ℕ} 7 14 = cc in absurd (omega arith), λ h. absurd (closed-not-finished (h .0)))
 
+fetch-rule-other : (f : Phase) (R : List Row) (p k : ℕ) → fetchRule f R p ≡ noRow k → (k ≡ 7) ⊎ (k ≡ 14)
+unfolding fetchRule
+fetch-rule-other running R p k e = let x : _≡_ {A = ℕ} 7 k = cc in inl (sym x)
+fetch-rule-other finished R p k e = go (ltb p (length R)) e
+  where
+    go : (b : Bool) → cond b (row (getD R p (record { pattern = 0; count = 0 }))) (noRow 14) ≡ noRow k → (k ≡ 7) ⊎ (k ≡ 14)
+    go true e = let x : _≡_ {A = ℕ} 0 1 = cc in absurd (omega arith)
+    go false e = let x : _≡_ {A = ℕ} 14 k = cc in inr (sym x)
+fetch-rule-other closed R p k e = let x : _≡_ {A = ℕ} 7 k = cc in inl (sym x)
+
 -- what a copy of a done run gives, by the two tests of its slices
 abbrev outcome : List Row → List ℕ → List ℕ → Bool → Bool → Copy
 outcome R a b x y =
@@ -193,6 +203,17 @@ copy-rule-15 finished R a b = (λ e. (refl, go (leb (length R) (length a)) refl 
     back (inl h) = rw (lt-leb (length R) (length a) h) refl
     back (inr h) = rw (lt-leb (length R) (length b) h) (either (leb (length R) (length a)))
 copy-rule-15 closed R a b = (λ e. let x : _≡_ {A = ℕ} 7 15 = cc in absurd (omega arith), λ h. absurd (closed-not-finished (h .0)))
+
+copy-rule-other : (f : Phase) (R : List Row) (a b : List ℕ) (k : ℕ) → copyRule f R a b .result ≡ notCopied k → (k ≡ 7) ⊎ (k ≡ 15)
+unfolding copyRule
+copy-rule-other running R a b k e = let x : _≡_ {A = ℕ} 7 k = cc in inl (sym x)
+copy-rule-other finished R a b k e = go (leb (length R) (length a)) (leb (length R) (length b)) e
+  where
+    go : (x y : Bool) → outcome R a b x y .result ≡ notCopied k → (k ≡ 7) ⊎ (k ≡ 15)
+    go true true e = let x : _≡_ {A = ℕ} 0 1 = cc in absurd (omega arith)
+    go true false e = let x : _≡_ {A = ℕ} 15 k = cc in inr (sym x)
+    go false y e = let x : _≡_ {A = ℕ} 15 k = cc in inr (sym x)
+copy-rule-other closed R a b k e = let x : _≡_ {A = ℕ} 7 k = cc in inl (sym x)
 
 copy-rule-kept : (f : Phase) (R : List Row) (a b : List ℕ) (k : ℕ) → copyRule f R a b .result ≡ notCopied k
     → (copyRule f R a b .patternsLeft ≡ a) × (copyRule f R a b .countsLeft ≡ b)
@@ -260,7 +281,9 @@ refusals N =
       closes = λ r z k e h. shuts N r z k h (why N r z k e);
       fetch-7 = λ r p. unfold fetchOf in fetch-rule-7 (r .phase) (r .rows) p;
       fetch-14 = λ r p. unfold fetchOf in fetch-rule-14 (r .phase) (r .rows) p;
+      fetch-other = λ r p k e. fetch-rule-other (r .phase) (r .rows) p k (unfold fetchOf in e);
       copy-7 = λ r a b. unfold copyOf in copy-rule-7 (r .phase) (r .rows) a b;
       copy-15 = λ r a b. unfold copyOf in copy-rule-15 (r .phase) (r .rows) a b;
+      copy-other = λ r a b k e. copy-rule-other (r .phase) (r .rows) a b k (unfold copyOf in e);
       slices-kept = λ r a b k e. unfold copyOf in copy-rule-kept (r .phase) (r .rows) a b k (unfold copyOf in e);
     }

@@ -4,7 +4,7 @@
 --   OutOfFirst z == z is no first answer: below 0 or above 64
 --   Shut r r′    == r′ is r closed: it has one more question and no rows
 --   Refusals N   == the numbers of an answer (7, 8, 9, 10), of a row fetch (7, 14) and of a copy of all rows (7, 15), each with its cause,
---                   and what is left as it was
+--                   that there is no other, and what is left as it was
 use mathlib.Core.Path.{_≡_}
 use mathlib.Core.Logic.{_≢_, _⊎_, _↔_}
 use mathlib.Core.Option.{Option, none}
@@ -41,10 +41,12 @@ pub record Refusals (N : ℕ → List Row → List ℤ → Option (List Row)) : 
   -- "rows wanted before done or after closed": 7; "row position past the last": 14
   pub fetch-7 : (r : State) (p : ℕ) → (fetchOf r p ≡ noRow 7) ↔ (r .phase ≢ finished)
   pub fetch-14 : (r : State) (p : ℕ) → (fetchOf r p ≡ noRow 14) ↔ ((r .phase ≡ finished) × (length (r .rows) ≤ p))
+  pub fetch-other : (r : State) (p k : ℕ) → fetchOf r p ≡ noRow k → (k ≡ 7) ⊎ (k ≡ 14)
   -- the same 7 for a copy; "an output slice too short": 15
   pub copy-7 : (r : State) (a b : List ℕ) → (copyOf r a b .result ≡ notCopied 7) ↔ (r .phase ≢ finished)
   pub copy-15 : (r : State) (a b : List ℕ) → (copyOf r a b .result ≡ notCopied 15)
       ↔ ((r .phase ≡ finished) × ((length a < length (r .rows)) ⊎ (length b < length (r .rows))))
+  pub copy-other : (r : State) (a b : List ℕ) (k : ℕ) → copyOf r a b .result ≡ notCopied k → (k ≡ 7) ⊎ (k ≡ 15)
   -- "every output slice" as it was
   pub slices-kept : (r : State) (a b : List ℕ) (k : ℕ) → copyOf r a b .result ≡ notCopied k
       → (copyOf r a b .patternsLeft ≡ a) × (copyOf r a b .countsLeft ≡ b)

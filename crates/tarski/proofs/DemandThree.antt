@@ -184,7 +184,7 @@ keeps-answers c z c′ x u =
       ap stepFrom e ∙ step-back y ∙ ap (λ (p : State × Step). p .1) (g .by-rules),
     )) (u .kept))
 
-keeps-fetches : (c : Run) (p : ℕ) (x : Fetch) → Fetches c p x → x ≡ fetchOf (stateOf c) p
+pub keeps-fetches : (c : Run) (p : ℕ) (x : Fetch) → Fetches c p x → x ≡ fetchOf (stateOf c) p
 unfolding fetchOf
 keeps-fetches c p x u =
     rw (← u .was, u .gave, ← u .position)
@@ -196,7 +196,7 @@ copy-back t a b c h e =
     ap (λ (p : FlatCopied × List ℕ × List ℕ). copyFrom (p .0) (p .1) (p .2)) e
     ∙ ap (λ (x : Copied). record { result = x; patternsLeft = c .patternsLeft; countsLeft = c .countsLeft }) (copied-back (c .result) h)
 
-keeps-copies : (c : Run) (a b : List ℕ) (x : Copy) → Copies c a b x → x ≡ copyOf (stateOf c) a b
+pub keeps-copies : (c : Run) (a b : List ℕ) (x : Copy) → Copies c a b x → x ≡ copyOf (stateOf c) a b
 unfolding copyOf
 keeps-copies c a b x u =
     rw (← u .was, u .gave, ← u .patterns, ← u .counts)
