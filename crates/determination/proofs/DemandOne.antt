@@ -108,11 +108,40 @@ start-claim s c x g = record { begins = begins; refuses = refuses }
 
 -- ---- an answer on the lent record: its promise is known only so far, so that the claim's parts are taken one by one
 
-run-set : IsSet Run
+pub run-set : IsSet Run
 run-set =
     retract-set {B = ℕ × (ℕ × (ℕ × (ℕ × (ℕ × (ℕ × (List ℕ × (List ℕ × (List ℕ × (ℕ × List ℤ)))))))))}
-    (λ r. (r .polynomials, (r .asked, (r .phase, (r .round, (r .n, (r .rows, (r .patterns, (r .counts, (r .products, (r .answered,
-    r .answers)))))))))))
+    (λ r. (
+      r .polynomials,
+      (
+        r .asked,
+        (
+          r .phase,
+          (
+            r .round,
+            (
+              r .n,
+              (
+                r .rows,
+                (
+                  r .patterns,
+                  (
+                    r .counts,
+                    (
+                      r .products,
+                      (
+                        r .answered,
+                        r .answers,
+                      ),
+                    ),
+                  ),
+                ),
+              ),
+            ),
+          ),
+        ),
+      ),
+    ))
     (λ t. record {
       polynomials = t .0;
       asked = t .1 .0;

@@ -2,27 +2,25 @@
 -- function over a lent record is an assertion that held where the call ended (`Held`), so that a weaker promise of any of them breaks the
 -- theorem.
 use mathlib.Core.Path.{_≡_, refl, sym, ap, ap₂, _∙_, subst}
-use mathlib.Core.Logic.{_≢_}
+use mathlib.Core.Logic.{_≢_, _⊎_, inl, inr}
 use mathlib.Core.HLevel.{×-prop}
-use mathlib.Core.Bool.{Bool, true, false, cond}
-use mathlib.Core.List.{List, _++_, map}
+use mathlib.Core.List.{List, _++_}
 use Prim.Native.Nat.{ℕ, zero, suc, _≤_}
 use native.Mathlib.Nat.{ℕ-set}
 use native.Mathlib.Omega.{arith}
 use borrow.Author.Tests.{le-leb}
-use lib.Dec.{leb, ltb, eqb·suc-zero}
+use lib.Dec.{eqb·suc-zero}
 use lib.IntN.{ℤ}
-use lib.ListN.{length, getD, drop}
 use contract.Lifetimes.{Lfts}
 use denote.Ref.{RefT, now}
 use denote.Triple.Entry.{Args, Res}
 use denote.Triple.Clauses.{AtExit}
 use Rattle.refusals.specs.Limits.{mostPolynomials}
-use Rattle.rounds.specs.Rows.{Row}
 use Rattle.rounds.specs.RoundEnd.{roundRows}
-use Rattle.runs.specs.Run.{State, Phase, Step, ask, done, refused, Fetch, row, noRow, Copied, copied, notCopied, Copy, running, finished}
-use Rattle.runs.specs.Run.{closed, startOf, answerOf, fetchRule, fetchOf, kept as refusal, copyRule, copyOf}
+use Rattle.runs.specs.Run.{State, Step, ask, done, refused, Fetch, row, noRow, Copied, copied, notCopied, Copy, running, startOf}
+use Rattle.runs.specs.Run.{answerOf, fetchOf, copyOf}
 use Rattle.runs.specs.Demand.{Call, Event, phaseOf, taken, asks, given, Claim}
+use Rattle.runs.proofs.Refusals.{refusals}
 use Rattle.runs.proofs.Chains.{Keeps, FromStart, demand3-chain}
 use Rattle.runs.proofs.Sets.{step-set, state-set, fetch-set, copy-set}
 use Rattle.determination.specs.Record.{stateOf, startedOf, AnswerGives}
@@ -108,7 +106,7 @@ pub record Asked (c : Run) (total : ℕ) : Type 2 where
 
 -- ---- the plain numbers stand for what they were made of
 
-step-back : (x : Step) → stepFrom (flatStepOf x) ≡ x
+pub step-back : (x : Step) → stepFrom (flatStepOf x) ≡ x
 unfolding stepFrom flatStepOf
 step-back (ask α) = refl
 step-back done = refl
@@ -127,33 +125,19 @@ copied-back (notCopied zero) h = absurd (h refl)
 copied-back (notCopied (suc k)) h = rw (eqb·suc-zero k) refl
 
 -- the rules never refuse with 0
-fetch-numbered : (f : Phase) (R : List Row) (p : ℕ) → fetchRule f R p ≢ noRow 0
-unfolding fetchRule
-fetch-numbered running R p e = let x : _≡_ {A = ℕ} 7 0 = cc in omega arith
-fetch-numbered finished R p e = go (ltb p (length R)) e
+fetch-numbered : (r : State) (p : ℕ) → fetchOf r p ≢ noRow 0
+fetch-numbered r p e = go (refusals roundRows .fetch-other r p 0 e)
   where
-    go : (b : Bool) → cond b (row (getD R p (record { pattern = 0; count = 0 }))) (noRow 14) ≢ noRow 0
-    go true e = let x : _≡_ {A = ℕ} 0 1 = cc in omega arith
-    go false e = let x : _≡_ {A = ℕ} 14 0 = cc in omega arith
-fetch-numbered closed R p e = let x : _≡_ {A = ℕ} 7 0 = cc in omega arith
+    go : (_≡_ {A = ℕ} 0 7) ⊎ (_≡_ {A = ℕ} 0 14) → ⊥
+    go (inl h) = omega (arith, h)
+    go (inr h) = omega (arith, h)
 
-copy-numbered : (f : Phase) (R : List Row) (a b : List ℕ) → copyRule f R a b .result ≢ notCopied 0
-unfolding copyRule
-copy-numbered running R a b e = let x : _≡_ {A = ℕ} 7 0 = cc in omega arith
-copy-numbered finished R a b e = go (leb (length R) (length a)) (leb (length R) (length b)) e
+copy-numbered : (r : State) (a b : List ℕ) → copyOf r a b .result ≢ notCopied 0
+copy-numbered r a b e = go (refusals roundRows .copy-other r a b 0 e)
   where
-    all : Copy
-    all = record {
-      result = copied (length R);
-      patternsLeft = map (λ r. r .pattern) R ++ drop (length R) a;
-      countsLeft = map (λ r. r .count) R ++ drop (length R) b;
-    }
-
-    go : (x y : Bool) → cond x (cond y all (refusal 15 a b)) (refusal 15 a b) .result ≢ notCopied 0
-    go true true e = let x : _≡_ {A = ℕ} 0 1 = cc in omega arith
-    go true false e = let x : _≡_ {A = ℕ} 15 0 = cc in omega arith
-    go false y e = let x : _≡_ {A = ℕ} 15 0 = cc in omega arith
-copy-numbered closed R a b e = let x : _≡_ {A = ℕ} 7 0 = cc in omega arith
+    go : (_≡_ {A = ℕ} 0 7) ⊎ (_≡_ {A = ℕ} 0 15) → ⊥
+    go (inl h) = omega (arith, h)
+    go (inr h) = omega (arith, h)
 
 -- ---- the contracts keep the rules
 
@@ -185,11 +169,10 @@ keeps-answers c z c′ x u =
     )) (u .kept))
 
 pub keeps-fetches : (c : Run) (p : ℕ) (x : Fetch) → Fetches c p x → x ≡ fetchOf (stateOf c) p
-unfolding fetchOf
 keeps-fetches c p x u =
     rw (← u .was, u .gave, ← u .position)
     (fact-held (u .world) (u .result ≡ rowOf (fetchOf (stateOf (now (u .args .0))) (u .args .1 .0))) _ (fetch-set _ _)
-    (λ e. ap fetchFrom e ∙ fetch-back _ (fetch-numbered (stateOf (now (u .args .0)) .phase) _ _)) (u .kept))
+    (λ e. ap fetchFrom e ∙ fetch-back _ (fetch-numbered (stateOf (now (u .args .0))) _)) (u .kept))
 
 copy-back : (t : FlatCopied) (a b : List ℕ) (c : Copy) → c .result ≢ notCopied 0 → (t, a, b) ≡ leftOf c → copyFrom t a b ≡ c
 copy-back t a b c h e =
@@ -197,13 +180,12 @@ copy-back t a b c h e =
     ∙ ap (λ (x : Copied). record { result = x; patternsLeft = c .patternsLeft; countsLeft = c .countsLeft }) (copied-back (c .result) h)
 
 pub keeps-copies : (c : Run) (a b : List ℕ) (x : Copy) → Copies c a b x → x ≡ copyOf (stateOf c) a b
-unfolding copyOf
 keeps-copies c a b x u =
     rw (← u .was, u .gave, ← u .patterns, ← u .counts)
     (fact-held (u .world)
     ((u .result, now (u .ends .1 .0), now (u .ends .1 .1 .0))
     ≡ leftOf (copyOf (stateOf (now (u .args .0))) (now (u .args .1 .0)) (now (u .args .1 .1 .0)))) _ (copy-set _ _)
-    (copy-back _ _ _ _ (copy-numbered (stateOf (now (u .args .0)) .phase) _ _ _)) (u .kept))
+    (copy-back _ _ _ _ (copy-numbered (stateOf (now (u .args .0))) _ _)) (u .kept))
 
 kept : Keeps Run stateOf Started Took Fetches Copies
 kept = record { starts = keeps-starts; answers = keeps-answers; fetches = keeps-fetches; copies = keeps-copies }
