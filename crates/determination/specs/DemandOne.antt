@@ -1,6 +1,6 @@
--- DEMAND 1 of the calls on a run: "The answer to every call, with no condition left to the caller, is a result or one number from the refusal
--- table in document 01. .. a run refused for its numbers is closed and yields no rows; all other lent memory holds what it held." It is
--- said of every record, also of one that no call could have left. What is a result, or which number, and when, is demand 3.
+-- DEMAND 1 of the calls on a run: "The answer to every call, with no condition left to the caller, is a result or one number from the
+-- refusal table in document 01. .. a run refused for its numbers is closed and yields no rows; all other lent memory holds what it held."
+-- It is said of every record, also of one that no call could have left. Which result, or which number, and when, is demand 3.
 --
 --   StartClaim s c x    == a start for s polynomials hands back the record c and gives the step x: "Where a start refused by 3 hands back a
 --                          new record, it is a closed one with no question asked"

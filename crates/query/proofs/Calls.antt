@@ -1,12 +1,18 @@
 -- THEOREM of the code: the calls that show a query keep demand 2's first sentence (`QueryGives`), in one call and on an opened card. Each
 -- call is known by its contract alone (`Learnt`), so that a weaker promise of any of them breaks the theorem.
+use mathlib.Core.Path.{_≡_, refl, sym, ap}
+use mathlib.Core.Bool.{Bool, true, false}
 use mathlib.Core.List.{List}
-use Prim.Native.Nat.{ℕ, _^_, _<_}
+use Prim.Native.Nat.{ℕ, _^_, _<_, _≤_}
+use native.Mathlib.Decide.{decLe}
 use native.Mathlib.Omega.{arith}
 use borrow.Author.Tests.{leb-true, leb-false}
 use contract.Lifetimes.{Lfts}
 use denote.Ref.{RefT, now}
 use lib.Dec.{leb}
+use lib.IntN.{ℤ}
+use Rattle.refusals.specs.Numbers.{cardNumbers, isAmong, Among}
+use Rattle.refusals.specs.Limits.{mostPolynomials, mostPoints}
 use Rattle.signs.specs.declared.Product.{Product}
 use Rattle.contents.proofs.Patterns.{query-patterns}
 use Rattle.layout.specs.Format.{polynomials}
@@ -14,11 +20,13 @@ use Rattle.layout.specs.Contents.{contentsOf}
 use Rattle.card.specs.Claim.{CardGives}
 use Rattle.card.proofs.Calls.{gives}
 use Rattle.query.specs.Query.{queryOf, queryAnswer}
-use Rattle.query.specs.Claim.{QueryGives}
+use Rattle.query.specs.Opened.{unlimited, openedAnswer}
+use Rattle.query.specs.Claim.{QueryGives, InLimits, OpenedGives}
 use Rattle.query.specs.declared.Queried.{Queried}
 use Rattle.query.specs.declared.Queried.the-variants as of-query
 use Rattle.query.specs.declared.Opened.{Opened}
-use Rattle.query.proofs.Opening.{answer-opened}
+use Rattle.query.proofs.Opening.{answer-own, answer-foreign, answer-limits, answer-product, answer-number, answer-opened}
+use Rattle.query.proofs.Opening.{few, many, crowded, limits}
 use Rattle.query.proofs.query.Reads as query
 use Rattle.query.proofs.open.Reads as open-card
 use Rattle.query.proofs.ask.Reads as ask
@@ -42,3 +50,48 @@ module _ (κs : Lfts 1) (card : RefT (List ℕ)) (a : Product) (o : Queried) whe
   pub demand2-opened : (k : Opened) → open-card.Learnt κs (card, tt) k (card, tt) → ask.Learnt tt (k, (a, tt)) o (k, (a, tt))
       → QueryGives (now card) (a .0) o
   demand2-opened k e f = rw (f, e, answer-opened (now card) (a .0)) (answer-gives (now card) (a .0))
+
+-- ---- any opened card
+
+module _ (o : Opened) (α : ℕ) where
+  unlimited-out : (InLimits o → ⊥) → unlimited o ≡ true
+  unlimited-out h = go (decLe 1 (o .s)) (decLe (o .s) mostPolynomials) (decLe (o .n) mostPoints)
+    where
+      go : Dec (1 ≤ o .s) → Dec (o .s ≤ mostPolynomials) → Dec (o .n ≤ mostPoints) → unlimited o ≡ true
+      go (no l) m n = few (o .s) (o .n) (omega arith)
+      go (yes l) (no m) n = many (o .s) (o .n) l (omega arith)
+      go (yes l) (yes m) (no n) = crowded (o .s) (o .n) l m (omega arith)
+      go (yes l) (yes m) (yes n) = absurd (h (l, m, n))
+
+  pub opened-gives : OpenedGives o α of-query.Refused of-query.Number (openedAnswer o α)
+  unfolding isAmong cardNumbers
+  opened-gives = record {
+    own = λ h. sym (answer-own o α (λ e. none-listed (rw e at (h .stands))) (h .stands));
+    no-card's = λ n h. sym (answer-foreign o α n (not-true _ (λ e. h (record { stands = e }))));
+    limits = λ e h. sym (answer-limits o α e (unlimited-out h));
+    past = λ e h b. sym (answer-product o α e (limits (o .s) (o .n) (h .0) (h .1) (h .2)) b);
+    shown = λ e h b. sym (answer-number o α e (limits (o .s) (o .n) (h .0) (h .1) (h .2)) b);
+  }
+    where
+      none-listed : isAmong 0 cardNumbers ≡ true → ⊥
+      none-listed e = let x : false ≡ true = e in let y : _≡_ {A = ℕ} 0 1 = cc in omega arith
+
+      not-true : (b : Bool) → (b ≡ true → ⊥) → b ≡ false
+      not-true true h = absurd (h refl)
+      not-true false h = refl
+
+-- put into another form by any function
+pub opened-through : {A B : Type 0} (f : A → B) {o : Opened} {α : ℕ} {refused : ℕ → A} {number : ℤ → A} {r : A}
+    → OpenedGives o α refused number r → OpenedGives o α (λ k. f (refused k)) (λ z. f (number z)) (f r)
+opened-through f g = record {
+  own = λ h. ap f (g .own h);
+  no-card's = λ n h. ap f (g .no-card's n h);
+  limits = λ e h. ap f (g .limits e h);
+  past = λ e h b. ap f (g .past e h b);
+  shown = λ e h b. ap f (g .shown e h b);
+}
+
+-- DEMAND 1 of a query on an opened card, whatever it holds
+pub demand1-opened : (k : Opened) (a : Product) (o : Queried) → ask.Learnt tt (k, (a, tt)) o (k, (a, tt))
+    → OpenedGives k (a .0) of-query.Refused of-query.Number o
+demand1-opened k a o e = rw e (opened-gives k (a .0))

@@ -1,4 +1,5 @@
--- DEMAND 1 of the library for C, for the calls on a run: on every lent record, each call known by its contract alone.
+-- DEMAND 1 of the library for C, for the calls on lent records: on every run record and every opened card, each call known by its contract
+-- alone.
 use mathlib.Core.Path.{_≡_, ap, subst, sym, _∙_}
 use mathlib.Core.HLevel.{×-prop, →-prop}
 use mathlib.Core.List.{List}
@@ -11,15 +12,20 @@ use denote.Ref.{now}
 use Rattle.refusals.specs.Limits.{mostPolynomials}
 use Rattle.runs.specs.Run.{State, Step, ask, refused}
 use Rattle.runs.proofs.Sets.{step-set}
-use Rattle.determination.specs.Record.{stateOf, startedOf}
+use Rattle.query.specs.Claim.{OpenedGives}
+use Rattle.query.specs.declared.Opened.{Opened}
+use Rattle.query.proofs.Calls.{opened-gives, opened-through}
+use Rattle.determination.specs.Record.{startedOf}
 use Rattle.determination.specs.DemandOne.{AnswerClaim, DemandOne}
 use Rattle.determination.specs.declared.Run.{Run}
 use Rattle.determination.proofs.Worlds.{fact-held}
 use Rattle.determination.proofs.DemandOne.{answer-claim, fetch-claim, copy-claim, claim-prop, run-set}
 use Rattle.tarski.specs.declared.FlatStep.{FlatStep}
-use Rattle.tarski.specs.Flat.{flatStepOf, flatAnsweredOf, keptOn, AnswerGivesFlat, StartGivesFlat}
+use Rattle.tarski.specs.declared.Number.{Number}
+use Rattle.tarski.specs.Flat.{numberOf, flatStepOf, keptOn, AnswerGivesFlat, StartGivesFlat}
 use Rattle.tarski.specs.Plain.{stepFrom}
-use Rattle.tarski.specs.Claim.{StartClaim}
+use Rattle.tarski.specs.Claim.{noNumber, aNumber, StartClaim}
+use Rattle.tarski.proofs.DemandTwo.{Asked, asked-answer}
 use Rattle.tarski.proofs.DemandThree.{Started, Took, Fetches, Copies, step-back, keeps-fetches, keeps-copies}
 
 answers : (c : Run) (z : ℤ) (c′ : Run) (x : Step) → Took c z c′ x → AnswerClaim c c′ x
@@ -36,6 +42,11 @@ demand1-library = record {
   fetches = λ c p x u. rw (keeps-fetches c p x u) (fetch-claim c p);
   copies = λ c a b x u. rw (keeps-copies c a b x u) (copy-claim c a b);
 }
+
+-- DEMAND 1 for a query on a lent opened card, whatever it holds
+pub demand1-library-ask : (k : Opened) (α : ℕ) (o : Number) → Asked k α o → OpenedGives k α noNumber aNumber o
+unfolding numberOf
+demand1-library-ask k α o a = rw (asked-answer k α o a) (opened-through numberOf (opened-gives k α))
 
 -- ---- a start
 

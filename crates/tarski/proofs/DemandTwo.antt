@@ -68,6 +68,11 @@ pub record Asked (k : Opened) (α : ℕ) (o : Number) : Type 2 where
   pub was : now (args .0) ≡ k
   pub product : args .1 .0 ≡ α
 
+pub asked-answer : (k : Opened) (α : ℕ) (o : Number) → Asked k α o → o ≡ numberOf (openedAnswer k α)
+asked-answer k α o a =
+    rw (← a .was, ← a .product)
+    (fact-held (a .world) (o ≡ numberOf (openedAnswer (now (a .args .0)) (a .args .1 .0))) _ (number-set _ _) (λ h. h) (a .kept))
+
 module _ (κs : Lfts 1) (card : RefT (List ℕ)) where
   pub library-check : (o : Checked) → check.Learnt κs (card, tt) o (card, tt) → CheckGives (now card) o
   unfolding cardOf reading
@@ -84,12 +89,7 @@ module _ (κs : Lfts 1) (card : RefT (List ℕ)) where
 
   pub demand2-library-ask : (k : Opened) (α : ℕ) (o : Number) → open-card.Learnt κs (card, tt) k (card, tt) → Asked k α o
       → QueryGives (now card) α o
-  demand2-library-ask k α o e a = rw (answered a, e, answer-opened (now card) α) (query-gives (now card) α)
-    where
-      answered : Asked k α o → o ≡ numberOf (openedAnswer k α)
-      answered a =
-          rw (← a .was, ← a .product)
-          (fact-held (a .world) (o ≡ numberOf (openedAnswer (now (a .args .0)) (a .args .1 .0))) _ (number-set _ _) (λ h. h) (a .kept))
+  demand2-library-ask k α o e a = rw (asked-answer k α o a, e, answer-opened (now card) α) (query-gives (now card) α)
 
 -- ---- adapted lists, and the solver
 

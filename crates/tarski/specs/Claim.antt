@@ -3,14 +3,14 @@
 -- keep them, known by their contracts alone, is proofs/DemandTwo.antt, with the claims on adapted lists and on the solver, and
 -- proofs/DemandOne.antt.
 --
---   noNumber k         == a value or a query that is refused by the number k
---   aNumber z          == the value or the query z
---   CheckGives c o     == `tarski_check` on the card c: s and n
---   ValueGives c j x o == `tarski_value`: the value of polynomial j at x, or 14
---   QueryGives c α o   == `tarski_query`, and `tarski_ask` on the card opened: the sum over the points of the sign of the product's
---                         value, or 13
---   StartClaim s c c′ x == `tarski_start` for s polynomials in the lent record c leaves c′ and gives the step x: product 0 to ask; or 3, "all
---                         lent memory; no run begins"
+--   noNumber k          == a value or a query that is refused by the number k
+--   aNumber z           == the value or the query z
+--   CheckGives c o      == `tarski_check` on the card c: s and n
+--   ValueGives c j x o  == `tarski_value`: the value of polynomial j at x, or 14
+--   QueryGives c α o    == `tarski_query`, and `tarski_ask` on the card opened: the sum over the points of the sign of the product's
+--                          value, or 13
+--   StartClaim s c c′ x == `tarski_start` for s polynomials in the lent record c leaves c′ and gives the step x: product 0 to ask; or 3,
+--                          "all lent memory; no run begins"
 use mathlib.Core.Path.{_≡_}
 use mathlib.Core.List.{List}
 use Prim.Native.Nat.{ℕ, _^_, _<_, _≤_}
