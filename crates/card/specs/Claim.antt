@@ -1,6 +1,7 @@
 -- What a call on a card answers, in the words of document 01 ("A card is checked before a product or position"; "Each number is given for
--- its cause and no other") and apart from the definitions that the contracts cite. That the calls keep it, known by their contracts alone,
--- is proofs/Calls.antt.
+-- its cause and no other"). Causes and their order are said anew, by `Sound` and not by `Answers`; which number refuses a card is
+-- `refusal`, and where a body stands and what a value is are `Format` and `Values`, as there. That the calls keep it, known by their
+-- contracts alone, is proofs/Calls.antt.
 --
 --   CardGives c In m refused shown o == a call on the card c answers o: on a sound card `shown` where In holds, and the number m where it
 --                                       does not; on any other card the number that refuses it, which is one of a card's

@@ -106,7 +106,7 @@ start-claim s c x g = record { begins = begins; refuses = refuses }
         let n : x ≡ refused 3 = ap (λ (o : State × Step). o .1) e in
         (n, g .closes 3 n, ap (λ (o : State × Step). o .0 .total) e)
 
--- ---- an answer on the lent record: its promise is known only so far, so that the claim's parts are taken one by one
+-- ---- an answer on the lent record: its promise is known only so far (it holds, by some proof), and any two proofs of the claim are equal
 
 pub run-set : IsSet Run
 run-set =

@@ -1,5 +1,6 @@
--- DEMAND 2, its first sentence: what a query of a product on a card shows, as document 000 has it (section 3.2), and apart from the
--- definitions that the contracts cite. That the calls keep it, known by their contracts alone, is proofs/Calls.antt.
+-- DEMAND 2, its first sentence: what a query of a product on a card shows, as document 000 has it (section 3.2). Causes and their order are
+-- said anew; the query itself is said twice, by `queryOf`, which the contracts' definitions cite too, and by the signs of the points'
+-- patterns. That the calls keep it, known by their contracts alone, is proofs/Calls.antt.
 --
 --   QueryGives c α o                 == a query of the product α on the card c shows o: on a sound card the sum over the points of the
 --                                       product's sign, or 13 where there is no such product; on any other card the number that refuses it
