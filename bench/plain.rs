@@ -38,7 +38,7 @@ pub fn check(card: &[u8]) -> Result<(usize, usize), u16> {
         }
         let d = card[at] as usize;
         if d > 6 {
-            return Err(5);
+            return Err(16);
         }
         let end = at + 1 + 4 * (d + 1);
         if card.len() < end {
@@ -52,7 +52,7 @@ pub fn check(card: &[u8]) -> Result<(usize, usize), u16> {
             }
         }
         if d > 0 && top == 0 {
-            return Err(5);
+            return Err(17);
         }
         if offset(card, j + 1) != end {
             return Err(4);

@@ -1,6 +1,6 @@
 /* Sign determination from Tarski queries: the proved calls of libtarski.a, for C99 and later and for C++, on x86-64 Linux.
  *
- * Every call answers whatever numbers it is given: with a result, or with a refusal number from 1 to 15 (enum tarski_refusal); 0 means not refused.
+ * Every call answers whatever numbers it is given: with a result, or with a refusal number from 1 to 17 (enum tarski_refusal); 0 means not refused.
  * A refusal leaves lent memory as it was, but for 8, 9 and 10, which close the run's record. No call allocates, blocks or keeps a pointer.
  *
  * What the caller owes, since no call can test it:
@@ -24,9 +24,9 @@ extern "C" {
 
 /* The version of this header and of the library beside it. */
 #define TARSKI_VERSION_MAJOR 0
-#define TARSKI_VERSION_MINOR 1
+#define TARSKI_VERSION_MINOR 2
 #define TARSKI_VERSION_PATCH 0
-#define TARSKI_VERSION "0.1.0"
+#define TARSKI_VERSION "0.2.0"
 
 /* The most polynomials and the most points of a card, and the most rows of a run. */
 #define TARSKI_MOST_POLYNOMIALS 8
@@ -43,21 +43,23 @@ extern "C" {
 
 enum tarski_refusal {
     TARSKI_NOT_REFUSED = 0,
-    TARSKI_WRONG_LENGTH = 1,     /* the card is shorter or longer than it says */
-    TARSKI_WRONG_BYTE = 2,       /* byte 0 or byte 3 is wrong */
-    TARSKI_WRONG_COUNT = 3,      /* s is not 1 to 8, or n is above 64 */
-    TARSKI_WRONG_OFFSET = 4,     /* an offset is not where its body begins */
-    TARSKI_WRONG_POLYNOMIAL = 5, /* a degree, a coefficient or a top coefficient is wrong */
-    TARSKI_WRONG_POINT = 6,      /* a point is outside -100 to 100, or falls */
-    TARSKI_LATE = 7,             /* an answer after the run was done or closed; rows wanted before it is done or after it closed */
-    TARSKI_BAD_FIRST = 8,        /* the first answer is below 0 or above 64 */
-    TARSKI_BAD_LATER = 9,        /* a later answer is outside -n .. n */
-    TARSKI_NO_COUNTS = 10,       /* a round's answers fit no counts */
-    TARSKI_WRONG_LIST = 11,      /* a list does not rise, is too long or has a pattern above 3^s - 1, or there are not as many numbers */
-    TARSKI_NO_SOLUTION = 12,     /* no whole numbers with absolute values adding up to at most 64 have these queries */
-    TARSKI_WRONG_PRODUCT = 13,   /* the product number is above 3^s - 1 */
-    TARSKI_PAST_LAST = 14,       /* there is no polynomial, or no row, at this position */
-    TARSKI_TOO_SHORT = 15        /* an output slice is too short */
+    TARSKI_WRONG_LENGTH = 1,      /* the card is shorter or longer than it says */
+    TARSKI_WRONG_BYTE = 2,        /* byte 0 or byte 3 is wrong */
+    TARSKI_WRONG_COUNT = 3,       /* s is not 1 to 8, or n is above 64 */
+    TARSKI_WRONG_OFFSET = 4,      /* an offset is not where its body begins */
+    TARSKI_WRONG_COEFFICIENT = 5, /* a coefficient is outside -1,000,000 to 1,000,000 */
+    TARSKI_WRONG_POINT = 6,       /* a point is outside -100 to 100, or falls */
+    TARSKI_LATE = 7,              /* an answer after the run was done or closed; rows wanted before it is done or after it closed */
+    TARSKI_BAD_FIRST = 8,         /* the first answer is below 0 or above 64 */
+    TARSKI_BAD_LATER = 9,         /* a later answer is outside -n .. n */
+    TARSKI_NO_COUNTS = 10,        /* a round's answers fit no counts */
+    TARSKI_WRONG_LIST = 11,       /* a list does not rise, is too long or has a pattern above 3^s - 1, or there are not as many numbers */
+    TARSKI_NO_SOLUTION = 12,      /* no whole numbers with absolute values adding up to at most 64 have these queries */
+    TARSKI_WRONG_PRODUCT = 13,    /* the product number is above 3^s - 1 */
+    TARSKI_PAST_LAST = 14,        /* there is no polynomial, or no row, at this position */
+    TARSKI_TOO_SHORT = 15,        /* an output slice is too short */
+    TARSKI_WRONG_DEGREE = 16,     /* a degree is above 6 */
+    TARSKI_ZERO_TOP = 17          /* the top coefficient is 0 though the degree is not */
 };
 
 /* What a refusal number means, in words. */
@@ -68,7 +70,7 @@ static inline const char *tarski_refusal_text(uint16_t refusal) {
     case TARSKI_WRONG_BYTE: return "byte 0 or byte 3 is wrong";
     case TARSKI_WRONG_COUNT: return "s is not 1 to 8, or n is above 64";
     case TARSKI_WRONG_OFFSET: return "an offset is not where its body begins";
-    case TARSKI_WRONG_POLYNOMIAL: return "a degree, a coefficient or a top coefficient is wrong";
+    case TARSKI_WRONG_COEFFICIENT: return "a coefficient is outside -1,000,000 to 1,000,000";
     case TARSKI_WRONG_POINT: return "a point is outside -100 to 100, or falls";
     case TARSKI_LATE: return "an answer after the run was done or closed; rows wanted before it is done or after it closed";
     case TARSKI_BAD_FIRST: return "the first answer is below 0 or above 64";
@@ -80,6 +82,8 @@ static inline const char *tarski_refusal_text(uint16_t refusal) {
     case TARSKI_WRONG_PRODUCT: return "the product number is above 3^s - 1";
     case TARSKI_PAST_LAST: return "there is no polynomial, or no row, at this position";
     case TARSKI_TOO_SHORT: return "an output slice is too short";
+    case TARSKI_WRONG_DEGREE: return "a degree is above 6";
+    case TARSKI_ZERO_TOP: return "the top coefficient is 0 though the degree is not";
     default: return "no such refusal";
     }
 }
@@ -120,7 +124,7 @@ struct tarski_opened {
     uint64_t negative[8];
 };
 
-/* Checks a card: 1 to 6 refuse it. */
+/* Checks a card: 1 to 6, 16 and 17 refuse it. */
 struct tarski_card tarski_check(const uint8_t *card, size_t length);
 /* The value at x of the polynomial at a position from 0: the card's number, then 14. */
 struct tarski_number tarski_value(const uint8_t *card, size_t length, size_t position, int8_t x);

@@ -5,7 +5,7 @@ use std::fmt;
 use std::mem::{offset_of, size_of};
 
 /// The version of this module and of the library beside it.
-pub const VERSION: (u32, u32, u32) = (0, 1, 0);
+pub const VERSION: (u32, u32, u32) = (0, 2, 0);
 /// The most polynomials and the most points of a card, and the most rows of a run.
 pub const MOST_POLYNOMIALS: usize = 8;
 pub const MOST_POINTS: usize = 64;
@@ -27,7 +27,7 @@ pub struct Pattern(pub u16);
 #[derive(Clone, Copy, Debug, Default, PartialEq, Eq, PartialOrd, Ord, Hash)]
 pub struct Product(pub u16);
 
-/// Why a call is refused: a number from 1 to 15.
+/// Why a call is refused: a number from 1 to 17.
 #[repr(transparent)]
 #[derive(Clone, Copy, Debug, PartialEq, Eq, PartialOrd, Ord, Hash)]
 pub struct Refusal(pub u16);
@@ -37,7 +37,7 @@ impl Refusal {
     pub const WRONG_BYTE: Refusal = Refusal(2);
     pub const WRONG_COUNT: Refusal = Refusal(3);
     pub const WRONG_OFFSET: Refusal = Refusal(4);
-    pub const WRONG_POLYNOMIAL: Refusal = Refusal(5);
+    pub const WRONG_COEFFICIENT: Refusal = Refusal(5);
     pub const WRONG_POINT: Refusal = Refusal(6);
     pub const LATE: Refusal = Refusal(7);
     pub const BAD_FIRST: Refusal = Refusal(8);
@@ -48,6 +48,8 @@ impl Refusal {
     pub const WRONG_PRODUCT: Refusal = Refusal(13);
     pub const PAST_LAST: Refusal = Refusal(14);
     pub const TOO_SHORT: Refusal = Refusal(15);
+    pub const WRONG_DEGREE: Refusal = Refusal(16);
+    pub const ZERO_TOP: Refusal = Refusal(17);
 
     /// What the number means, in words.
     pub fn text(self) -> &'static str {
@@ -56,7 +58,7 @@ impl Refusal {
             Refusal::WRONG_BYTE => "byte 0 or byte 3 is wrong",
             Refusal::WRONG_COUNT => "s is not 1 to 8, or n is above 64",
             Refusal::WRONG_OFFSET => "an offset is not where its body begins",
-            Refusal::WRONG_POLYNOMIAL => "a degree, a coefficient or a top coefficient is wrong",
+            Refusal::WRONG_COEFFICIENT => "a coefficient is outside -1,000,000 to 1,000,000",
             Refusal::WRONG_POINT => "a point is outside -100 to 100, or falls",
             Refusal::LATE => "an answer after the run was done or closed; rows wanted before it is done or after it closed",
             Refusal::BAD_FIRST => "the first answer is below 0 or above 64",
@@ -69,6 +71,8 @@ impl Refusal {
             Refusal::WRONG_PRODUCT => "the product number is above 3^s - 1",
             Refusal::PAST_LAST => "there is no polynomial, or no row, at this position",
             Refusal::TOO_SHORT => "an output slice is too short",
+            Refusal::WRONG_DEGREE => "a degree is above 6",
+            Refusal::ZERO_TOP => "the top coefficient is 0 though the degree is not",
             _ => "no such refusal",
         }
     }

@@ -1,5 +1,5 @@
 /* Calls every function of include/tarski.h with results that are known, and each refusal number once; C99, C11 and C++. With the word `texts` it
- * prints what each refusal number means. Its argument else is the card of example 3.2.13 (X, X + 1, X - 2 at -3, 1, 3). Says what is wrong, and fails. */
+ * prints what each number up to 99 means. Its argument else is the card of example 3.2.13 (X, X + 1, X - 2 at -3, 1, 3). Says what is wrong, and fails. */
 #include <stdio.h>
 #include <string.h>
 
@@ -61,7 +61,9 @@ static void cards(void) {
     SEE(tarski_check(with(1, 9), length).refusal == TARSKI_WRONG_COUNT);
     SEE(tarski_check(with(2, 65), length).refusal == TARSKI_WRONG_COUNT);
     SEE(tarski_check(with(4, 13), length).refusal == TARSKI_WRONG_OFFSET);
-    SEE(tarski_check(with(12, 7), length).refusal == TARSKI_WRONG_POLYNOMIAL);
+    SEE(tarski_check(with(13, 1), length).refusal == TARSKI_WRONG_COEFFICIENT);
+    SEE(tarski_check(with(12, 7), length).refusal == TARSKI_WRONG_DEGREE && tarski_check(with(12, 7), 13).refusal == TARSKI_WRONG_DEGREE);
+    SEE(tarski_check(with(20, 0), length).refusal == TARSKI_ZERO_TOP);
     SEE(tarski_check(with(length - 1, 101), length).refusal == TARSKI_WRONG_POINT);
     said = tarski_check(with(0, 2), length);
     SEE(said.polynomials == 0 && said.points == 0);
@@ -104,6 +106,10 @@ static void queries(void) {
     SEE(tarski_query(card, length - 1, product(0)).refusal == TARSKI_WRONG_LENGTH);
     opened = tarski_open(with(3, 1), length);
     SEE(opened.refusal == TARSKI_WRONG_BYTE && tarski_ask(&opened, product(0)).refusal == TARSKI_WRONG_BYTE);
+    opened = tarski_open(with(12, 7), length);
+    SEE(opened.refusal == TARSKI_WRONG_DEGREE && tarski_ask(&opened, product(0)).refusal == TARSKI_WRONG_DEGREE);
+    opened = tarski_open(with(20, 0), length);
+    SEE(opened.refusal == TARSKI_ZERO_TOP && tarski_ask(&opened, product(27)).refusal == TARSKI_ZERO_TOP);
 }
 
 /* A one-field struct is passed like its field, and what a register holds above its 16 bits has no effect: the same calls with such bits. */
@@ -242,7 +248,7 @@ static void nothing(void) {
 int main(int count, char **words) {
     FILE *file;
     if (count == 2 && strcmp(words[1], "texts") == 0) {
-        for (uint16_t k = 0; k < 17; k++)
+        for (uint16_t k = 0; k < 100; k++)
             printf("%u %s\n", (unsigned)k, tarski_refusal_text(k));
         return 0;
     }
@@ -254,7 +260,7 @@ int main(int count, char **words) {
     length = fread(card, 1, sizeof card, file);
     fclose(file);
     SEE(length == 42);
-    SEE(strcmp(TARSKI_VERSION, "0.1.0") == 0 && TARSKI_VERSION_MAJOR == 0 && TARSKI_VERSION_MINOR == 1 && TARSKI_VERSION_PATCH == 0);
+    SEE(strcmp(TARSKI_VERSION, "0.2.0") == 0 && TARSKI_VERSION_MAJOR == 0 && TARSKI_VERSION_MINOR == 2 && TARSKI_VERSION_PATCH == 0);
     if (!wrong) {
         types();
         cards();

@@ -1,5 +1,5 @@
-// Calls every function of include/tarski.rs with results that are known, and sees each refusal once. With the word `texts` it prints what each refusal
-// number means. Its argument else is the card of example 3.2.13 (X, X + 1, X − 2 at −3, 1, 3).
+// Calls every function of include/tarski.rs with results that are known, and sees each refusal once. With the word `texts` it prints what each number
+// up to 99 means. Its argument else is the card of example 3.2.13 (X, X + 1, X − 2 at −3, 1, 3).
 #[path = "../include/tarski.rs"]
 mod tarski;
 
@@ -19,7 +19,9 @@ fn cards(card: &[u8]) {
     assert_eq!(tarski::check(&with(card, 0, 2)), Err(Refusal::WRONG_BYTE));
     assert_eq!(tarski::check(&with(card, 1, 9)), Err(Refusal::WRONG_COUNT));
     assert_eq!(tarski::check(&with(card, 4, 13)), Err(Refusal::WRONG_OFFSET));
-    assert_eq!(tarski::check(&with(card, 12, 7)), Err(Refusal::WRONG_POLYNOMIAL));
+    assert_eq!(tarski::check(&with(card, 13, 1)), Err(Refusal::WRONG_COEFFICIENT));
+    assert_eq!(tarski::check(&with(card, 12, 7)), Err(Refusal::WRONG_DEGREE));
+    assert_eq!(tarski::check(&with(card, 20, 0)), Err(Refusal::ZERO_TOP));
     assert_eq!(tarski::check(&with(card, last, 101)), Err(Refusal::WRONG_POINT));
     assert_eq!(tarski::value(card, 0, -3), Ok(-3));
     assert_eq!(tarski::value(card, 1, 5), Ok(6));
@@ -91,14 +93,14 @@ fn runs(card: &[u8]) {
 fn main() {
     let word = std::env::args().nth(1).expect("usage: library CARD | texts");
     if word == "texts" {
-        for number in 1..17 {
+        for number in 0..100 {
             println!("{number} {}", Refusal(number).text());
         }
         return;
     }
     let card = std::fs::read(word).unwrap();
     assert_eq!(card.len(), 42);
-    assert_eq!(tarski::VERSION, (0, 1, 0));
+    assert_eq!(tarski::VERSION, (0, 2, 0));
     assert_eq!(Refusal(3).to_string(), "refused by 3: s is not 1 to 8, or n is above 64");
     let limits = [tarski::MOST_POLYNOMIALS, tarski::MOST_POINTS, tarski::MOST_ROWS, tarski::MOST_QUESTIONS, tarski::LONGEST_CARD, tarski::MOST_STACK];
     assert_eq!(limits, [8, 64, 64, 593, 318, 32768]);

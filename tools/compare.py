@@ -56,7 +56,7 @@ def parse(card):
             raise Refused(1)
         degree, rest = rest[0], rest[1:]
         if degree > 6:
-            raise Refused(5)
+            raise Refused(16)
         body, rest = rest[:4 * degree + 4], rest[4 * degree + 4:]
         if len(body) < 4 * degree + 4:
             raise Refused(1)
@@ -64,7 +64,7 @@ def parse(card):
         if max(map(abs, coefficients)) > LARGEST:
             raise Refused(5)
         if degree and not coefficients[-1]:
-            raise Refused(5)
+            raise Refused(17)
         if following != len(card) - len(rest):
             raise Refused(4)
         polynomials.append(coefficients)
@@ -206,7 +206,7 @@ def sound(draw):
     return [polynomial(draw, points) for _ in range(s)], points
 
 
-KINDS = 12  # of damage
+KINDS = 14  # of damage
 damage = collections.Counter()  # how often each kind was done
 
 
@@ -240,6 +240,18 @@ def damaged(draw):
     if kind == 9 and points:
         points[draw.randrange(len(points))] = draw.choice([-101, 101, -100, 100, -128, 127, 0])
         return write(polynomials, points)
+    if kind == 12:  # degree 7 or more, whole or cut short
+        p = draw.choice(polynomials)
+        p += [1] * (8 - len(p) + draw.choice([0, 0, 1, 248]))
+        card = write(polynomials, points)
+        return card[:draw.randrange(len(card))] if draw.random() < 0.3 else card
+    if kind == 13:  # a top coefficient of 0, and a coefficient outside its limits or a wrong offset after it
+        j = draw.randrange(len(polynomials))
+        polynomials[j] = polynomials[j][:draw.randint(1, 6)] + [0]
+        if draw.random() < 0.5:
+            polynomials[j][0] = draw.choice([-1, 1]) * draw.choice([LARGEST, LARGEST + 1])
+        by = draw.choice([0, 0, -1, 1])
+        return write(polynomials, points, lambda places: [p + by * (k == j + 1) for k, p in enumerate(places)])
     if kind == 10:
         return bytes(draw.randrange(256) for _ in range(draw.randrange(330)))
     head = bytes([1, draw.choice([0, 9, len(polynomials)]), draw.choice([65, 255, len(points)]), 0])
@@ -294,10 +306,10 @@ def main():
             return 1
         told[want.split()[1] if want.startswith('R') else 'sound'] += 1
         most = max(most, want.count('Q'))
-    refused = ', '.join(f'{told[k]} by {k}' for k in sorted(told) if k != 'sound')
+    refused = ', '.join(f'{told[k]} by {k}' for k in sorted(set(told) - {'sound'}, key=int))
     print(f'seed {seed}: {sum(told.values())} cards, {told["sound"]} of them sound, the longest run {most} questions; refused: {refused}; '
           f'{sum(independent.values())} lists found by independence, {sum(independent[k] for k in independent if k > 3)} of them of more than 3 polynomials; no difference')
-    missing = [f'refusal {k}' for k in range(1, 7) if not told[str(k)]] + [f'damage of kind {k}' for k in range(KINDS) if not damage[k]]
+    missing = [f'refusal {k}' for k in (1, 2, 3, 4, 5, 6, 16, 17) if not told[str(k)]] + [f'damage of kind {k}' for k in range(KINDS) if not damage[k]]
     missing += [] if told['sound'] else ['a sound card']
     missing += [] if any(k > 3 for k in independent) else ['a list of more than 3 polynomials found by independence']
     if missing:

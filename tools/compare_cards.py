@@ -1,14 +1,14 @@
 #!/usr/bin/env python3
-"""Compares what the library says about cards, by the program card_tests, with a second reader written here from document 01 alone.
+"""Compares what the library says about cards, by the program card_tests, with a second reader written here from documents 01 and 02 alone.
 
 usage: python3 tools/compare_cards.py [SEED|day [SOUND [BASES]]]    compares; prints one line of counts, exits 1 at a difference
        python3 tools/compare_cards.py --data                        writes crates/card_tests/data/cards and crates/card_tests/stdout
 
 SOUND cards are drawn, of every s and every n in turn. BASES more are drawn and damaged: cut at every length, every byte changed by some values,
-every cause of the refusal table at every place that it can have, and two such causes at once. Each card is asked about some products. The second
-reader goes another way: it takes the bytes off one after the other, works out values by powers and not by Horner's rule, and a query by the exact
-product of the values to their powers and not by signs. SEED (day: that of
-the day), SOUND and BASES decide every card. It fails where a number that refuses a card did not occur.
+every cause of the refusal table at every place that it can have, and two such causes at once, at random and within one polynomial. Each card is
+asked about some products. The second reader goes another way: it takes the bytes off one after the other, works out values by powers and not by
+Horner's rule, and a query by the exact product of the values to their powers and not by signs. SEED (day: that of the day), SOUND and BASES decide
+every card. It fails where a number that refuses a card did not occur.
 """
 
 import datetime
@@ -56,7 +56,7 @@ class Reader:
 
 
 def read(card):
-    """The polynomials, each as (its place, its coefficients), and the points; or Refused with the number. Document 01, "Card order"."""
+    """The polynomials, each as (its place, its coefficients), and the points; or Refused with the number. Document 01, "Card order"; document 02, wish 1."""
     r = Reader(card)
     claim(r.left() >= 4, 1)
     kind, s, n, zero = (r.number(1) for _ in range(4))
@@ -71,11 +71,11 @@ def read(card):
         place = r.at
         claim(r.left() >= 1, 1)
         d = r.number(1)
-        claim(d <= 6, 5)
+        claim(d <= 6, 16)
         claim(r.left() >= 4 * (d + 1), 1)
         c = [r.number(4, signed=True) for _ in range(d + 1)]
         claim(all(-LARGEST <= a <= LARGEST for a in c), 5)
-        claim(d == 0 or c[d] != 0, 5)
+        claim(d == 0 or c[d] != 0, 17)
         claim(after == r.at, 4)
         polynomials.append((place, c))
     claim(r.left() == n, 1)
@@ -218,6 +218,24 @@ def causes(card):
     return found + [(at, end, b'') for at in (0, 1, 2, 3, 4, 5, 4 + 2 * s, 5 + 2 * s, end - 1)]
 
 
+def together(card):
+    """Two causes of one polynomial at once, or one of them and what comes next on the card: the order of 16, 1, 5, 17 and 4."""
+    polynomials, _ = read(card)
+    found = []
+    for j, (place, c) in enumerate(polynomials):
+        high, end = (place, place + 1, bytes([7])), place + 4 * len(c) + 1
+        wrong = (6 + 2 * j, 8 + 2 * j, (end + 1).to_bytes(2, 'big'))
+        large = [(place + 4 * k + 1, place + 4 * k + 5, (LARGEST + 1).to_bytes(4, 'big')) for k in range(len(c))]
+        found += [(high, (place + 1, len(card), b'')), (high, wrong), (high, large[0]), (large[-1], wrong), (large[0], (end - 1, len(card), b''))]
+        if len(c) > 1:
+            zero = (end - 4, end, bytes(4))
+            found += [(zero, wrong), (zero, (end - 1, len(card), b'')), (zero, large[0]), (zero, large[-2]), (zero, high)]
+        if len(c) > 1 and j + 1 < len(polynomials):
+            after = polynomials[j + 1][0]
+            found += [(zero, (after, after + 1, bytes([7]))), (zero, (after + 1, after + 5, (LARGEST + 1).to_bytes(4, 'big')))]
+    return found
+
+
 def changed(card, *damages):
     """The card with these damages, those that keep its length first, then from its end on."""
     for start, stop, put in sorted(damages, key=lambda d: (d[1] - d[0] != len(d[2]), -d[0])):
@@ -226,9 +244,9 @@ def changed(card, *damages):
 
 
 def damaged(rng, base):
-    """Of a sound card: every cause at every place, as many pairs of them, every cut and every changed byte."""
+    """Of a sound card: every cause at every place, as many pairs of them, those of one polynomial, every cut and every changed byte."""
     single = causes(base)
-    pairs = [rng.sample(single, 2) for _ in single]
+    pairs = [rng.sample(single, 2) for _ in single] + together(base)
     return [changed(base, d) for d in single + cuts(base) + changes(rng, base)] + [changed(base, *d) for d in pairs]
 
 
@@ -300,11 +318,11 @@ def show(seed, sounds, bases):
     """Compares and prints the counts: of the damaged cards some are sound, as one with another coefficient. Fails where a number never occurred."""
     whole, broken = draw(seed, sounds, bases)
     seen = compare(whole + broken)
-    missing = {'sound', '1', '2', '3', '4', '5', '6'} - set(seen)
+    missing = {'sound', '1', '2', '3', '4', '5', '6', '16', '17'} - set(seen)
     if missing or not whole or not broken:
         sys.exit('compare_cards: did not occur: ' + ', '.join(sorted(missing) or ['a card']))
     asked = sum(len(products) for _, products in whole + broken)
-    found = ', '.join('%s: %d' % (key, seen[key]) for key in sorted(seen))
+    found = ', '.join('%s: %d' % (key, seen[key]) for key in sorted(seen, key=lambda key: (len(key), key)))
     print('compare_cards: seed %d: %d sound and %d damaged cards, %d queries, no difference (by number %s)' % (seed, len(whole), len(broken), asked, found))
 
 

@@ -1,5 +1,5 @@
 #!/usr/bin/env python3
-"""Writes data/cards and stdout: cards, sound and damaged, and their printouts, worked out from document 01 by another route.
+"""Writes data/cards and stdout: cards, sound and damaged, and their printouts, worked out from documents 01 and 02 by another route.
 
 The reader is a second one. A query is the sum of the signs of the product's values, as whole numbers. The rows of a round are the patterns that the
 points have. An adapted list is found as document 000 has it: the first products, in rising order, whose rows of signs are independent.
@@ -38,12 +38,14 @@ def read(card):
             raise Refused(1)
         d = card[at]
         if d > 6:
-            raise Refused(5)
+            raise Refused(16)
         if at + 5 + 4 * d > len(card):
             raise Refused(1)
         c = list(struct.unpack('>%di' % (d + 1), card[at + 1:at + 5 + 4 * d]))
-        if any(abs(a) > 10 ** 6 for a in c) or (d > 0 and c[d] == 0):
+        if any(abs(a) > 10 ** 6 for a in c):
             raise Refused(5)
+        if d > 0 and c[d] == 0:
+            raise Refused(17)
         polynomials.append(c)
         at += 5 + 4 * d
         if offsets[j + 1] != at:

@@ -1,4 +1,4 @@
--- Cards of document 01 and its edges, by computing the definitions.
+-- Cards of document 01 and its edges, and those of document 02, wish 1, by computing the definitions.
 --
 --   example == the card of document 01, "One card through": P1 = X, P2 = X + 1, P3 = X − 2 at −3, 1, 3
 --   largest == one polynomial of degree 6 with all coefficients 1,000,000, at 100
@@ -16,6 +16,7 @@ use Rattle.card.specs.declared.Stretch.the-variants as Stretch
 use Rattle.card.specs.Card.{anyBelow, contentsRefusal, headerRefusal, polynomialRefusal, coefficientsRefusal, bodiesRefusal}
 use Rattle.card.specs.Card.{pointsRefusal, refusal, positionRefusal}
 use Rattle.card.specs.Answers.{reading, stretch, body}
+use Rattle.card.specs.Finer.{polynomialsBefore, refusalBefore}
 
 abbrev example : List ℕ
 example =
@@ -102,7 +103,7 @@ unfolding reading refusal headerRefusal contentsRefusal bodiesRefusal polynomial
 bad-last-offset = refl
 
 -- a degree, a coefficient and a top coefficient
-bad-degree : reading (set example 12 7) ≡ Card.Refused 5
+bad-degree : reading (set example 12 7) ≡ Card.Refused 16
 unfolding reading refusal headerRefusal contentsRefusal bodiesRefusal polynomialRefusal coefficientsRefusal pointsRefusal anyBelow offset
     two's word
 bad-degree = refl
@@ -112,7 +113,7 @@ unfolding reading refusal headerRefusal contentsRefusal bodiesRefusal polynomial
     two's word
 bad-coefficient = refl
 
-bad-top : reading (set example 20 0) ≡ Card.Refused 5
+bad-top : reading (set example 20 0) ≡ Card.Refused 17
 unfolding reading refusal headerRefusal contentsRefusal bodiesRefusal polynomialRefusal coefficientsRefusal pointsRefusal anyBelow offset
     two's word
 bad-top = refl
@@ -163,7 +164,7 @@ unfolding reading refusal headerRefusal contentsRefusal bodiesRefusal polynomial
 no-second-degree = refl
 
 -- a degree is tested before the body is seen to be cut short
-degree-first : reading (take 13 (set example 12 7)) ≡ Card.Refused 5
+degree-first : reading (take 13 (set example 12 7)) ≡ Card.Refused 16
 unfolding reading refusal headerRefusal contentsRefusal bodiesRefusal polynomialRefusal coefficientsRefusal pointsRefusal anyBelow offset
     two's word
 degree-first = refl
@@ -174,7 +175,7 @@ unfolding reading refusal headerRefusal contentsRefusal bodiesRefusal polynomial
     two's word
 offset-first = refl
 
-degree-before-offset : reading (set (set example 12 7) 7 0) ≡ Card.Refused 5
+degree-before-offset : reading (set (set example 12 7) 7 0) ≡ Card.Refused 16
 unfolding reading refusal headerRefusal contentsRefusal bodiesRefusal polynomialRefusal coefficientsRefusal pointsRefusal anyBelow offset
     two's word
 degree-before-offset = refl
@@ -190,6 +191,24 @@ length-first : reading (set example 41 101 ++ (3 ∷ [])) ≡ Card.Refused 1
 unfolding reading refusal headerRefusal contentsRefusal bodiesRefusal polynomialRefusal coefficientsRefusal pointsRefusal anyBelow offset
     two's word
 length-first = refl
+
+-- document 02, wish 1. A degree of 255; a top coefficient of 0 at degree 6, and at degree 0, where it is sound. A coefficient outside its
+-- limits hides a top coefficient of 0, which hides the offset after it and the next polynomial's coefficients
+polynomial-edges : (reading (set example 12 255) ≡ Card.Refused 16)
+    × (reading (set (set (set largest 34 0) 35 0) 36 0) ≡ Card.Refused 17)
+    × (reading (1 ∷ 1 ∷ 0 ∷ 0 ∷ 0 ∷ 8 ∷ 0 ∷ 13 ∷ 0 ∷ 0 ∷ 0 ∷ 0 ∷ 0 ∷ []) ≡ Card.Sound 1 0)
+    × (reading (set (set example 13 1) 20 0) ≡ Card.Refused 5)
+    × (reading (set (set example 20 0) 7 0) ≡ Card.Refused 17)
+    × (reading (set (set example 20 0) 22 1) ≡ Card.Refused 17)
+unfolding reading refusal headerRefusal contentsRefusal bodiesRefusal polynomialRefusal coefficientsRefusal pointsRefusal anyBelow offset
+    two's word
+polynomial-edges = (refl, refl, refl, refl, refl, refl)
+
+-- by document 01's own order the example is sound, and a degree, a coefficient and a top coefficient are 5
+edges-before : (refusalBefore example ≡ 0) × (refusalBefore (set example 12 7) ≡ 5) × (refusalBefore (set example 13 1) ≡ 5)
+    × (refusalBefore (set example 20 0) ≡ 5)
+unfolding refusalBefore polynomialsBefore anyBelow offset two's word
+edges-before = (refl, refl, refl, refl)
 
 -- the largest value
 largest-read : reading largest ≡ Card.Sound 1 1

@@ -8,5 +8,6 @@ pub mod Sound
 pub mod Longest
 pub mod Positions
 pub mod Listed
+pub mod Finer
 pub mod Calls
 pub mod Edges

@@ -7,13 +7,35 @@ use Prim.Native.Nat.{ℕ, zero, suc, _+_}
 use lib.Dec.{leb, ltb, eqb}
 use lib.IntN.{natAbs}
 use lib.ListN.{length}
-use Rattle.refusals.specs.Numbers.{wrongLength, wrongByte, wrongCount, wrongOffset, wrongPolynomial, wrongPoint, pastLast}
-use Rattle.refusals.specs.Numbers.{cardNumbers, isAmong, Among, _when_, _▸_}
+use Rattle.refusals.specs.Numbers.{wrongLength, wrongByte, wrongCount, wrongOffset, wrongCoefficient, wrongPoint, wrongDegree, zeroTop}
+use Rattle.refusals.specs.Numbers.{pastLast, cardNumbers, isAmong, Among, _when_, _▸_}
 use Rattle.refusals.specs.Limits.{mostPolynomials, mostPoints, mostDegree, mostCoefficient, mostPoint}
-use Rattle.refusals.proofs.Causes.{then-among, only-among, first-among}
+use Rattle.refusals.proofs.Causes.{then-holds, only-holds, first-holds}
 use Rattle.layout.specs.Format.{byte, polynomials, pointCount, offset, bodiesAt, degree, size, coefficient, point}
 use Rattle.card.specs.Card.{anyBelow, outside, falling, contentsRefusal, headerRefusal, coefficientsRefusal, polynomialRefusal}
 use Rattle.card.specs.Card.{bodiesRefusal, pointsRefusal, refusal, positionRefusal}
+
+-- what holds of 0 and of the header's numbers holds of the number that refuses a card within the header and the contents; so for the points
+module _ (P : ℕ → Type 0) (none : P 0) (c : List ℕ) where
+  contents-holds : P wrongLength → P wrongOffset → P (contentsRefusal c)
+  unfolding contentsRefusal
+  contents-holds length-fails offset-fails =
+      first-holds P wrongLength (ltb (length c) (bodiesAt c)) length-fails
+      (only-holds P wrongOffset (not (eqb (offset c 0) (bodiesAt c))) none offset-fails)
+
+  pub header-holds : P wrongLength → P wrongByte → P wrongCount → P wrongOffset → P (headerRefusal c)
+  unfolding headerRefusal
+  header-holds length-fails byte-fails count-fails offset-fails =
+      first-holds P wrongLength (ltb (length c) 4) length-fails
+      (first-holds P wrongByte (not (eqb (byte c 0) 1) || not (eqb (byte c 3) 0)) byte-fails
+      (first-holds P wrongCount (ltb (polynomials c) 1 || ltb mostPolynomials (polynomials c)) count-fails
+      (first-holds P wrongCount (ltb mostPoints (pointCount c)) count-fails (contents-holds length-fails offset-fails))))
+
+  pub points-holds : (at : ℕ) → P wrongLength → P wrongPoint → P (pointsRefusal c at)
+  unfolding pointsRefusal
+  points-holds at length-fails point-fails =
+      first-holds P wrongLength (not (eqb (length c) (at + pointCount c))) length-fails
+      (only-holds P wrongPoint (anyBelow (λ k. outside mostPoint (point c at k) || falling c at k) (pointCount c)) none point-fails)
 
 -- none, or a card's number
 abbrev pub Listed : ℕ → Type 0
@@ -27,59 +49,51 @@ there m h = record { stands = rw h (or-true (eqb m 0)) }
     or-true true = refl
     or-true false = refl
 
+none-listed : Listed 0
+unfolding isAmong
+none-listed = record { stands = refl }
+
 -- a cause with a card's number, before others or alone
 first-listed : (m : ℕ) (t : Bool) {r : ℕ} → isAmong m cardNumbers ≡ true → Listed r → Listed (m when t ▸ r)
-first-listed m t h = first-among m t (there m h)
+first-listed m t h = first-holds Listed m t (there m h)
 
 only-listed : (m : ℕ) (t : Bool) → isAmong m cardNumbers ≡ true → Listed (m when t)
-unfolding isAmong
-only-listed m t h = only-among m t (record { stands = refl }) (there m h)
+only-listed m t h = only-holds Listed m t none-listed (there m h)
 
 module _ (c : List ℕ) where
-  contents-listed : Listed (contentsRefusal c)
-  unfolding contentsRefusal isAmong cardNumbers
-  contents-listed =
-      first-listed wrongLength (ltb (length c) (bodiesAt c)) refl
-      (only-listed wrongOffset (not (eqb (offset c 0) (bodiesAt c))) refl)
-
   header-listed : Listed (headerRefusal c)
-  unfolding headerRefusal isAmong cardNumbers
+  unfolding isAmong cardNumbers
   header-listed =
-      first-listed wrongLength (ltb (length c) 4) refl
-      (first-listed wrongByte (not (eqb (byte c 0) 1) || not (eqb (byte c 3) 0)) refl
-      (first-listed wrongCount (ltb (polynomials c) 1 || ltb mostPolynomials (polynomials c)) refl
-      (first-listed wrongCount (ltb mostPoints (pointCount c)) refl contents-listed)))
+      header-holds Listed none-listed c (there wrongLength refl) (there wrongByte refl) (there wrongCount refl) (there wrongOffset refl)
 
   points-listed : (at : ℕ) → Listed (pointsRefusal c at)
-  unfolding pointsRefusal isAmong cardNumbers
-  points-listed at =
-      first-listed wrongLength (not (eqb (length c) (at + pointCount c))) refl
-      (only-listed wrongPoint (anyBelow (λ k. outside mostPoint (point c at k) || falling c at k) (pointCount c)) refl)
+  unfolding isAmong cardNumbers
+  points-listed at = points-holds Listed none-listed c at (there wrongLength refl) (there wrongPoint refl)
 
   coefficients-listed : (at : ℕ) → Listed (coefficientsRefusal c at)
   unfolding coefficientsRefusal isAmong cardNumbers
   coefficients-listed at =
-      first-listed wrongPolynomial (anyBelow (λ i. outside mostCoefficient (coefficient c at i)) (degree c at + 1)) refl
-      (only-listed wrongPolynomial (ltb 0 (degree c at) && eqb (natAbs (coefficient c at (degree c at))) 0) refl)
+      first-listed wrongCoefficient (anyBelow (λ i. outside mostCoefficient (coefficient c at i)) (degree c at + 1)) refl
+      (only-listed zeroTop (ltb 0 (degree c at) && eqb (natAbs (coefficient c at (degree c at))) 0) refl)
 
   polynomial-listed : (at : ℕ) → Listed (polynomialRefusal c at)
   unfolding polynomialRefusal isAmong cardNumbers
   polynomial-listed at =
       first-listed wrongLength (leb (length c) at) refl
-      (first-listed wrongPolynomial (ltb mostDegree (degree c at)) refl
+      (first-listed wrongDegree (ltb mostDegree (degree c at)) refl
       (first-listed wrongLength (ltb (length c) (at + size c at)) refl (coefficients-listed at)))
 
   bodies-listed : (k j at : ℕ) → Listed (bodiesRefusal c k j at)
   unfolding bodiesRefusal isAmong cardNumbers
   bodies-listed zero j at = points-listed at
   bodies-listed (suc k) j at =
-      then-among (polynomialRefusal c at) (polynomial-listed at)
+      then-holds Listed (polynomialRefusal c at) (polynomial-listed at)
       (first-listed wrongOffset (not (eqb (offset c (suc j)) (at + size c at))) refl (bodies-listed k (suc j) (at + size c at)))
 
   -- THE LAW for a card
   pub refusal-listed : Listed (refusal c)
   unfolding refusal
-  refusal-listed = then-among (headerRefusal c) header-listed (bodies-listed (polynomials c) 0 (bodiesAt c))
+  refusal-listed = then-holds Listed (headerRefusal c) header-listed (bodies-listed (polynomials c) 0 (bodiesAt c))
 
   -- and for a position on it
   pub position-listed : (j : ℕ) → Listed (positionRefusal c j) ⊎ (positionRefusal c j ≡ pastLast)

@@ -11,7 +11,7 @@ use borrow.Author.Tests.{le-ltb, lt-leb, ltb-false}
 use lib.Dec.{ltb, eqb}
 use lib.ListN.{length, take, replicate}
 use lib.Seq.{take-all, length-take-le, getD-take}
-use Rattle.refusals.specs.Numbers.{wrongByte, wrongCount, wrongOffset, wrongPolynomial, _when_, _▸_}
+use Rattle.refusals.specs.Numbers.{wrongByte, wrongCount, wrongOffset, wrongDegree, _when_, _▸_}
 use Rattle.refusals.specs.Limits.{mostPolynomials, mostPoints, mostDegree, mostCoefficient, longestCard}
 use Rattle.layout.specs.Format.{byte, polynomials, pointCount, offset, bodiesAt, degree, size, word, two's, coefficient}
 use Rattle.layout.proofs.Twos.{below-or}
@@ -147,11 +147,11 @@ module _ (c d : List ℕ) (long-c : longestCard < length c) (long-d : longestCar
     same-polynomial =
         rw (lt-leb (length c) at (omega arith), lt-leb (length d) at (omega arith), same-degree)
         (next high high _ _ refl λ e.
-        let l : degree d at ≤ mostDegree = ltb-false mostDegree (degree d at) (holds-not 4 (ltb mostDegree (degree d at)) e) in
+        let l : degree d at ≤ mostDegree = ltb-false mostDegree (degree d at) (holds-not 15 (ltb mostDegree (degree d at)) e) in
         rw (le-ltb (length c) (at + size d at) (omega arith), le-ltb (length d) (at + size d at) (omega arith)) (same-coefficients l))
       where
         high : ℕ
-        high = wrongPolynomial when ltb mostDegree (degree d at)
+        high = wrongDegree when ltb mostDegree (degree d at)
 
   -- the points: as many bytes as are left are never n
   same-points : (at : ℕ) → pointCount d ≤ mostPoints → at + mostPoints ≤ longestCard → pointsRefusal c at ≡ pointsRefusal d at

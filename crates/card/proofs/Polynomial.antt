@@ -34,7 +34,7 @@ module _ (c : List ℕ) (at : ℕ) where
       simp (some-true (λ k. outside 1000000 (coefficient c at k)) (degree c at + 1) i (omega arith) e)
 
   module _ (none : anyBelow (λ k. outside 1000000 (coefficient c at k)) (degree c at + 1) ≡ false) where
-    pub zero-top : 0 < degree c at → natAbs (coefficient c at (degree c at)) ≡ 0 → coefficientsRefusal c at ≡ 5
+    pub zero-top : 0 < degree c at → natAbs (coefficient c at (degree c at)) ≡ 0 → coefficientsRefusal c at ≡ 17
     unfolding coefficientsRefusal
     zero-top h e = simp (none, lt-ltb 0 (degree c at) h, eq-eqb _ 0 e)
 
@@ -51,7 +51,7 @@ module _ (c : List ℕ) (at : ℕ) where
   no-degree h = simp (le-leb (length c) at h)
 
   module _ (begins : at < length c) where
-    pub large-degree : 6 < degree c at → polynomialRefusal c at ≡ 5
+    pub large-degree : 6 < degree c at → polynomialRefusal c at ≡ 16
     unfolding polynomialRefusal
     large-degree h = simp (lt-leb (length c) at begins, lt-ltb 6 (degree c at) h)
 
@@ -66,9 +66,23 @@ module _ (c : List ℕ) (at : ℕ) where
       whole-body h =
           simp (lt-leb (length c) at begins, le-ltb 6 (degree c at) low, le-ltb (length c) (at + size c at) h)
 
+-- ---- coefficients within their limits
+module _ (c : List ℕ) (at : ℕ) where
+  pub small-of : Whole c at → anyBelow (λ k. outside 1000000 (coefficient c at k)) (degree c at + 1) ≡ false → Small c at
+  small-of w none =
+      record {
+        whole = w;
+        small = λ i h. ltb-false 1000000 _ (some-false (λ k. outside 1000000 (coefficient c at k)) (degree c at + 1) none i (omega arith));
+      }
+
+  pub none-large : Small c at → anyBelow (λ k. outside 1000000 (coefficient c at k)) (degree c at + 1) ≡ false
+  none-large m =
+      none-below (λ k. outside 1000000 (coefficient c at k)) (degree c at + 1)
+      (λ i h. le-ltb 1000000 _ (m .small i (omega arith)))
+
 -- ---- a sound polynomial
 module _ (c : List ℕ) (at : ℕ) (e : polynomialRefusal c at ≡ 0) where
-  whole-rest : (1 when leb (length c) at ▸ 5 when ltb 6 (degree c at) ▸ 1 when ltb (length c) (at + size c at) ▸ coefficientsRefusal c at)
+  whole-rest : (1 when leb (length c) at ▸ 16 when ltb 6 (degree c at) ▸ 1 when ltb (length c) (at + size c at) ▸ coefficientsRefusal c at)
       ≡ 0
   unfolding polynomialRefusal
   whole-rest = e
@@ -76,10 +90,10 @@ module _ (c : List ℕ) (at : ℕ) (e : polynomialRefusal c at ≡ 0) where
   pub whole : Whole c at
   whole =
       let e1 = then-none (1 when leb (length c) at) _ whole-rest in
-      let e2 = then-none (5 when ltb 6 (degree c at)) _ e1 in
+      let e2 = then-none (16 when ltb 6 (degree c at)) _ e1 in
       record {
         begins = leb-false (length c) at (holds-not 0 (leb (length c) at) (first-none _ _ whole-rest));
-        low = ltb-false 6 (degree c at) (holds-not 4 (ltb 6 (degree c at)) (first-none _ _ e1));
+        low = ltb-false 6 (degree c at) (holds-not 15 (ltb 6 (degree c at)) (first-none _ _ e1));
         ends = ltb-false (length c) (at + size c at) (holds-not 0 (ltb (length c) (at + size c at)) (first-none _ _ e2));
       }
 
@@ -91,11 +105,7 @@ module _ (c : List ℕ) (at : ℕ) (e : polynomialRefusal c at ≡ 0) where
   none = holds-not 4 (anyBelow (λ k. outside 1000000 (coefficient c at k)) (degree c at + 1)) (first-none _ _ sound)
 
   pub small : Small c at
-  small =
-      record {
-        whole = whole;
-        small = λ i h. ltb-false 1000000 _ (some-false (λ k. outside 1000000 (coefficient c at k)) (degree c at + 1) none i (omega arith));
-      }
+  small = small-of c at whole none
 
   pub body : Body c at
   body = record { small = small; top = λ z. top-zero z (below-or 0 (degree c at)) }
@@ -106,16 +116,11 @@ module _ (c : List ℕ) (at : ℕ) (e : polynomialRefusal c at ≡ 0) where
 
 -- ---- and no number refuses a sound one
 module _ (c : List ℕ) (at : ℕ) (b : Body c at) where
-  none-large : anyBelow (λ k. outside 1000000 (coefficient c at k)) (degree c at + 1) ≡ false
-  none-large =
-      none-below (λ k. outside 1000000 (coefficient c at k)) (degree c at + 1)
-      (λ i h. le-ltb 1000000 _ (b .small .small i (omega arith)))
-
   pub unrefused-polynomial : polynomialRefusal c at ≡ 0
   unrefused-polynomial =
       let w = b .small .whole in
       whole-body c at (w .begins) (w .low) (w .ends) ∙ go (below-or 0 (degree c at))
     where
       go : (0 < degree c at) ⊎ (degree c at ≤ 0) → coefficientsRefusal c at ≡ 0
-      go (inl h) = sound-coefficients c at none-large h (λ z. absurd (omega (arith, b .top (abs-zero _ z))))
-      go (inr h) = sound-constant c at none-large h
+      go (inl h) = sound-coefficients c at (none-large c at (b .small)) h (λ z. absurd (omega (arith, b .top (abs-zero _ z))))
+      go (inr h) = sound-constant c at (none-large c at (b .small)) h

@@ -12,6 +12,10 @@ or-true : (a : Bool) → a || true ≡ true
 or-true true = refl
 or-true false = refl
 
+or-none : (a : Bool) → a || false ≡ a
+or-none true = refl
+or-none false = refl
+
 pub or-left : (a b : Bool) → a ≡ true → a || b ≡ true
 or-left a b e = rw e
 
@@ -46,6 +50,16 @@ module _ (f : ℕ → Bool) where
       ⊎-elim (λ w. rw (← w .0, e) (or-true (anyBelow f k)))
       (λ w. rw (some-true n k (omega (arith, w .0)) e))
       (eq-cases k n)
+
+  pub some-which : (n : ℕ) → anyBelow f n ≡ true → (k : ℕ) × (k < n) × (f k ≡ true)
+  unfolding anyBelow
+  some-which zero e = absurd (let x : _≡_ {A = ℕ} 0 1 = cc in omega arith)
+  some-which (suc n) e = go (f n) refl e (some-which n)
+    where
+      go : (t : Bool) → f n ≡ t → anyBelow f n || t ≡ true → (anyBelow f n ≡ true → (k : ℕ) × (k < n) × (f k ≡ true))
+          → (k : ℕ) × (k < suc n) × (f k ≡ true)
+      go true h e before = (n, omega arith, h)
+      go false h e before = let (k, l, g) = before (rw (or-none (anyBelow f n)) at e) in (k, omega arith, g)
 
   pub some-false : (n : ℕ) → anyBelow f n ≡ false → (k : ℕ) → k < n → f k ≡ false
   unfolding anyBelow

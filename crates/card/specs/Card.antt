@@ -1,4 +1,4 @@
--- Which cards are refused, and by which number (document 01, "Card order").
+-- Which cards are refused, and by which number (document 01, "Card order", with 5 split as document 02, wish 1, has it).
 --
 --   anyBelow f n             == f holds of a number below n
 --   outside b z              == z is below −b or above b
@@ -19,7 +19,8 @@ use lib.Dec.{ltb, leb, eqb}
 use lib.IntN.{ℤ, natAbs}
 use lib.ListN.{length}
 use lib.Signed.{ltZ}
-use Rattle.refusals.specs.Numbers.{wrongLength, wrongByte, wrongCount, wrongOffset, wrongPolynomial, wrongPoint, pastLast, _when_, _▸_}
+use Rattle.refusals.specs.Numbers.{wrongLength, wrongByte, wrongCount, wrongOffset, wrongCoefficient, wrongPoint, wrongDegree, zeroTop}
+use Rattle.refusals.specs.Numbers.{pastLast, _when_, _▸_}
 use Rattle.refusals.specs.Limits.{mostPolynomials, mostPoints, mostDegree, mostCoefficient, mostPoint}
 use Rattle.layout.specs.Format.{byte, polynomials, pointCount, offset, bodiesAt, degree, size, coefficient, point}
 
@@ -43,13 +44,13 @@ pointsRefusal c at =
 -- ---- each polynomial
 unfoldable pub coefficientsRefusal : List ℕ → ℕ → ℕ
 coefficientsRefusal c at =
-    wrongPolynomial when anyBelow (λ i. outside mostCoefficient (coefficient c at i)) (degree c at + 1)
-    ▸ wrongPolynomial when (ltb 0 (degree c at) && eqb (natAbs (coefficient c at (degree c at))) 0)
+    wrongCoefficient when anyBelow (λ i. outside mostCoefficient (coefficient c at i)) (degree c at + 1)
+    ▸ zeroTop when (ltb 0 (degree c at) && eqb (natAbs (coefficient c at (degree c at))) 0)
 
 unfoldable pub polynomialRefusal : List ℕ → ℕ → ℕ
 polynomialRefusal c at =
     wrongLength when leb (length c) at
-    ▸ wrongPolynomial when ltb mostDegree (degree c at)
+    ▸ wrongDegree when ltb mostDegree (degree c at)
     ▸ wrongLength when ltb (length c) (at + size c at)
     ▸ coefficientsRefusal c at
 

@@ -3,3 +3,4 @@ pub mod Sound
 pub mod Answers
 pub mod Longest
 pub mod Claim
+pub mod Finer

@@ -16,11 +16,13 @@ use refusals::MOST_COEFFICIENT;
 use refusals::NONE;
 use refusals::PAST_LAST;
 use refusals::WRONG_BYTE;
+use refusals::WRONG_COEFFICIENT;
 use refusals::WRONG_COUNT;
+use refusals::WRONG_DEGREE;
 use refusals::WRONG_LENGTH;
 use refusals::WRONG_OFFSET;
 use refusals::WRONG_POINT;
-use refusals::WRONG_POLYNOMIAL;
+use refusals::ZERO_TOP;
 
 // The limits, as bytes and words of a card have them.
 const MOST_POLYNOMIALS: u8 = refusals::MOST_POLYNOMIALS as u8;
@@ -96,13 +98,13 @@ fn check_coefficients(card: &[u8], at: usize) -> u16
     while i <= d {
         top = word(card, at + 1 + 4 * i);
         if too_large(top) {
-            return WRONG_POLYNOMIAL;
+            return WRONG_COEFFICIENT;
         }
         i += 1;
     }
     if 0 < d {
         if top == 0 {
-            return WRONG_POLYNOMIAL;
+            return ZERO_TOP;
         }
     }
     NONE
@@ -116,7 +118,7 @@ fn check_polynomial(card: &[u8], at: usize) -> u16
         return WRONG_LENGTH;
     }
     if MOST_DEGREE < card[at] {
-        return WRONG_POLYNOMIAL;
+        return WRONG_DEGREE;
     }
     if card.len() < at + size(card, at) {
         return WRONG_LENGTH;

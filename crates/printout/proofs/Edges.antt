@@ -31,8 +31,8 @@ example =
 abbrev empty : List ℕ
 empty = 1 ∷ 1 ∷ 0 ∷ 0 ∷ 0 ∷ 8 ∷ 0 ∷ 17 ∷ 1 ∷ 0 ∷ 0 ∷ 0 ∷ 0 ∷ 0 ∷ 0 ∷ 0 ∷ 1 ∷ []
 
--- a card refused by 5: `R 5`
-refused-text : printoutOf (set example 12 7) ≡ (82 ∷ 32 ∷ 53 ∷ 10 ∷ [])
+-- a card refused by 16: `R 16`
+refused-text : printoutOf (set example 12 7) ≡ (82 ∷ 32 ∷ 49 ∷ 54 ∷ 10 ∷ [])
 unfolding printoutOf together linesOf refusal headerRefusal contentsRefusal bodiesRefusal polynomialRefusal coefficientsRefusal
     pointsRefusal anyBelow offset two's word refusalLine decimal decimalTo
 refused-text = refl

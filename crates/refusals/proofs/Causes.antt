@@ -1,22 +1,21 @@
--- Causes in order give a number that stands in a list, where each of their numbers does.
+-- What holds of the number of each cause, and of 0, holds of the number that causes in order give.
 use mathlib.Core.Bool.{Bool, true, false}
-use mathlib.Core.List.{List}
 use Prim.Native.Nat.{ℕ, zero, suc}
-use Rattle.refusals.specs.Numbers.{Among, _when_, _▸_}
+use Rattle.refusals.specs.Numbers.{_when_, _▸_}
 
-module _ {l : List ℕ} where
+module _ (P : ℕ → Type 0) where
   -- two causes, one after the other
-  pub then-among : (a : ℕ) {r : ℕ} → Among l a → Among l r → Among l (a ▸ r)
-  then-among zero h k = k
-  then-among (suc a) h k = h
+  pub then-holds : (a : ℕ) {r : ℕ} → P a → P r → P (a ▸ r)
+  then-holds zero h k = k
+  then-holds (suc a) h k = h
 
   -- one cause
-  pub only-among : (m : ℕ) (t : Bool) → Among l 0 → Among l m → Among l (m when t)
-  only-among m true z h = h
-  only-among m false z h = z
+  pub only-holds : (m : ℕ) (t : Bool) → P 0 → P m → P (m when t)
+  only-holds m true z h = h
+  only-holds m false z h = z
 
   -- one cause before others
-  pub first-among : (m : ℕ) (t : Bool) {r : ℕ} → Among l m → Among l r → Among l (m when t ▸ r)
-  first-among zero true h k = k
-  first-among (suc m) true h k = h
-  first-among m false h k = k
+  pub first-holds : (m : ℕ) (t : Bool) {r : ℕ} → P m → P r → P (m when t ▸ r)
+  first-holds zero true h k = k
+  first-holds (suc m) true h k = h
+  first-holds m false h k = k

@@ -1,27 +1,29 @@
--- The numbers that refuse (document 01, "Cause, and what the caller gets"), and causes in order.
+-- The numbers that refuse (document 01, "Cause, and what the caller gets"; from 16 on, document 02), and causes in order.
 --
---   wrongLength     == 1, the card is shorter or longer than it says
---   wrongByte       == 2, byte 0 or byte 3 is wrong
---   wrongCount      == 3, s or n is outside its limits
---   wrongOffset     == 4, an offset is other than the place its body begins
---   wrongPolynomial == 5, a degree, a coefficient or a top coefficient is wrong
---   wrongPoint      == 6, a point is outside its limits or falling
---   late            == 7, an answer after done or closed; rows wanted before done or after closed
---   badFirst        == 8, the first answer is below 0 or above 64
---   badLater        == 9, a later answer is outside −n .. n
---   noCounts        == 10, a round's answers fit no counts
---   wrongList       == 11, the solver's list is not rising, too long or has a pattern above 3^s − 1, or there are not as many numbers
---   noSolution      == 12, the solver's numbers have no solution
---   wrongProduct    == 13, the product number is above 3^s − 1
---   pastLast        == 14, the position is past the last polynomial or row
---   tooShort        == 15, an output slice is too short
---   cardNumbers     == the numbers that refuse a card
---   closingNumbers  == the numbers that close a run
---   isAmong m l     == the test that the number m stands in the list l
---   Among l m       == the number m stands in the list l
---   m when t        == the cause t: the number m where t holds, and 0, no refusal, where it does not
---   a ▸ b           == first a, then b: a, unless it is 0; then b
---   unless m f a    == a where the number m is 0, and f m where it refuses
+--   wrongLength      == 1, the card is shorter or longer than it says
+--   wrongByte        == 2, byte 0 or byte 3 is wrong
+--   wrongCount       == 3, s or n is outside its limits
+--   wrongOffset      == 4, an offset is other than the place its body begins
+--   wrongCoefficient == 5, a coefficient is outside its limits
+--   wrongPoint       == 6, a point is outside its limits or falling
+--   late             == 7, an answer after done or closed; rows wanted before done or after closed
+--   badFirst         == 8, the first answer is below 0 or above 64
+--   badLater         == 9, a later answer is outside −n .. n
+--   noCounts         == 10, a round's answers fit no counts
+--   wrongList        == 11, the solver's list is not rising, too long or has a pattern above 3^s − 1, or there are not as many numbers
+--   noSolution       == 12, the solver's numbers have no solution
+--   wrongProduct     == 13, the product number is above 3^s − 1
+--   pastLast         == 14, the position is past the last polynomial or row
+--   tooShort         == 15, an output slice is too short
+--   wrongDegree      == 16, a degree is above 6
+--   zeroTop          == 17, the top coefficient is 0 though the degree is not
+--   cardNumbers      == the numbers that refuse a card
+--   closingNumbers   == the numbers that close a run
+--   isAmong m l      == the test that the number m stands in the list l
+--   Among l m        == the number m stands in the list l
+--   m when t         == the cause t: the number m where t holds, and 0, no refusal, where it does not
+--   a ▸ b            == first a, then b: a, unless it is 0; then b
+--   unless m f a     == a where the number m is 0, and f m where it refuses
 use mathlib.Core.Path.{_≡_}
 use mathlib.Core.Bool.{Bool, true, false, _||_}
 use mathlib.Core.List.{List, [], _∷_}
@@ -40,8 +42,8 @@ wrongCount = 3
 abbrev pub wrongOffset : ℕ
 wrongOffset = 4
 
-abbrev pub wrongPolynomial : ℕ
-wrongPolynomial = 5
+abbrev pub wrongCoefficient : ℕ
+wrongCoefficient = 5
 
 abbrev pub wrongPoint : ℕ
 wrongPoint = 6
@@ -73,10 +75,17 @@ pastLast = 14
 abbrev pub tooShort : ℕ
 tooShort = 15
 
+abbrev pub wrongDegree : ℕ
+wrongDegree = 16
+
+abbrev pub zeroTop : ℕ
+zeroTop = 17
+
 -- ---- which numbers they are
 
 unfoldable pub cardNumbers : List ℕ
-cardNumbers = wrongLength ∷ wrongByte ∷ wrongCount ∷ wrongOffset ∷ wrongPolynomial ∷ wrongPoint ∷ []
+cardNumbers =
+    wrongLength ∷ wrongByte ∷ wrongCount ∷ wrongOffset ∷ wrongCoefficient ∷ wrongPoint ∷ wrongDegree ∷ zeroTop ∷ []
 
 unfoldable pub closingNumbers : List ℕ
 closingNumbers = badFirst ∷ badLater ∷ noCounts ∷ []

@@ -1,4 +1,5 @@
-// The numbers of document 01, each in one place: those that refuse ("Cause, and what the caller gets") and the limits of a card and of a run.
+// The numbers of document 01, each in one place: those that refuse ("Cause, and what the caller gets"; from 16 on, document 02) and the limits of a card
+// and of a run.
 ghost use mathlib.Core.Path.{_≡_};
 ghost use Rattle.refusals.specs.Numbers.{isAmong, cardNumbers};
 
@@ -14,7 +15,7 @@ pub const WRONG_COUNT: u16 = 3; // s or n is outside its limits
 
 pub const WRONG_OFFSET: u16 = 4; // an offset is other than the place its body begins
 
-pub const WRONG_POLYNOMIAL: u16 = 5; // a degree, a coefficient or a top coefficient is wrong
+pub const WRONG_COEFFICIENT: u16 = 5; // a coefficient is outside its limits
 
 pub const WRONG_POINT: u16 = 6; // a point is outside its limits or falling
 
@@ -35,6 +36,10 @@ pub const WRONG_PRODUCT: u16 = 13; // the product number is above 3^s − 1
 pub const PAST_LAST: u16 = 14; // the position is past the last polynomial or row
 
 pub const TOO_SHORT: u16 = 15; // an output slice is too short
+
+pub const WRONG_DEGREE: u16 = 16; // a degree is above 6
+
+pub const ZERO_TOP: u16 = 17; // the top coefficient is 0 though the degree is not
 
 // ---- the limits
 
@@ -60,13 +65,15 @@ pub const LONGEST_CARD: usize = 4 // the header
     + MOST_POINTS;
 
 // The numbers that refuse a card.
-const CARD_NUMBERS: [u16; 6] = [
+const CARD_NUMBERS: [u16; 8] = [
     WRONG_LENGTH,
     WRONG_BYTE,
     WRONG_COUNT,
     WRONG_OFFSET,
-    WRONG_POLYNOMIAL,
+    WRONG_COEFFICIENT,
     WRONG_POINT,
+    WRONG_DEGREE,
+    ZERO_TOP,
 ];
 
 // Whether a number stands in a list.
