@@ -1,15 +1,15 @@
 -- Which number refuses a card for a wrong polynomial (document 02, wish 1: "5 stays for a coefficient outside its limits. All other cards
 -- are refused as before"), in words of its own. That it holds of every card is proofs/Finer.antt.
 --
---   Reached c j                == the checks come to polynomial j: no number refuses the header and the contents, and each polynomial before
---                                 it is sound, with the next offset where its body ends
+--   Reached c j                == the checks come to polynomial j: no number refuses the header and the contents, and each polynomial
+--                                 before it is sound, with the next offset where its body ends
 --   HighDegree c at            == the body that begins at byte `at` has its degree byte on the card c, and the degree is above 6
 --   LargeCoefficient c at      == it is `Whole`, and a coefficient is outside −1,000,000 to 1,000,000
 --   ZeroTop c at               == it is `Small`, and its top coefficient is 0 though its degree is not
 --   coarse m                   == the number m, with 16 and 17 read as 5
 --   refusalBefore c            == the number that refuses the card c by document 01's own "Card order", or 0; for this claim only
---   polynomialsBefore c k j at == the number that refuses it by that order from polynomial j on, whose body begins at byte `at`, or 0; there
---                                 are k polynomials left
+--   polynomialsBefore c k j at == the number that refuses it by that order from polynomial j on, whose body begins at byte `at`, or 0;
+--                                 there are k polynomials left
 --   Finer c                    == each of 5, 16 and 17 refuses the card c exactly for its cause, and with 16 and 17 read as 5 its number is
 --                                 document 01's
 use mathlib.Core.Path.{_≡_}

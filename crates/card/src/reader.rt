@@ -1,4 +1,4 @@
-// The checks of a card, in the card's order (document 01, "Card order"). Each answers the number of the first cause, or 0.
+// The checks of a card, in the card's order (document 01, "Card order"; document 02, wish 1). Each answers the number of the first cause, or 0.
 ghost use mathlib.Core.Path.{_≡_};
 ghost use Prim.Native.Nat.{_+_, _≤_};
 ghost use lib.IntN.{pos, _+ℤ_};
