@@ -24,9 +24,9 @@ extern "C" {
 
 /* The version of this header and of the library beside it. */
 #define TARSKI_VERSION_MAJOR 0
-#define TARSKI_VERSION_MINOR 2
+#define TARSKI_VERSION_MINOR 3
 #define TARSKI_VERSION_PATCH 0
-#define TARSKI_VERSION "0.2.0"
+#define TARSKI_VERSION "0.3.0"
 
 /* The most polynomials and the most points of a card, and the most rows of a run. */
 #define TARSKI_MOST_POLYNOMIALS 8
@@ -43,7 +43,7 @@ extern "C" {
 
 enum tarski_refusal {
     TARSKI_NOT_REFUSED = 0,
-    TARSKI_WRONG_LENGTH = 1,      /* the card is shorter or longer than it says */
+    TARSKI_WRONG_LENGTH = 1,      /* the card is shorter or longer than it says, or a list of coefficients is not as long as the degrees say */
     TARSKI_WRONG_BYTE = 2,        /* byte 0 or byte 3 is wrong */
     TARSKI_WRONG_COUNT = 3,       /* s is not 1 to 8, or n is above 64 */
     TARSKI_WRONG_OFFSET = 4,      /* an offset is not where its body begins */
@@ -66,7 +66,7 @@ enum tarski_refusal {
 static inline const char *tarski_refusal_text(uint16_t refusal) {
     switch (refusal) {
     case TARSKI_NOT_REFUSED: return "not refused";
-    case TARSKI_WRONG_LENGTH: return "the card is shorter or longer than it says";
+    case TARSKI_WRONG_LENGTH: return "the card is shorter or longer than it says, or a list of coefficients is not as long as the degrees say";
     case TARSKI_WRONG_BYTE: return "byte 0 or byte 3 is wrong";
     case TARSKI_WRONG_COUNT: return "s is not 1 to 8, or n is above 64";
     case TARSKI_WRONG_OFFSET: return "an offset is not where its body begins";
@@ -134,6 +134,24 @@ struct tarski_number tarski_query(const uint8_t *card, size_t length, struct tar
 struct tarski_opened tarski_open(const uint8_t *card, size_t length);
 /* The query of a product on an opened card: the card's number, then 13. */
 struct tarski_number tarski_ask(const struct tarski_opened *card, struct tarski_product product);
+
+/* ---- cards written and drawn */
+
+/* How many bytes the card written has; 0 where it is refused. */
+struct tarski_written {
+    size_t length;
+    uint16_t refusal;
+};
+
+/* Writes to out the card of polynomials of these degrees, whose coefficients stand in one list, the first polynomial's first and its constant first, and
+ * of these points. Refused in this order: by 3 (not 1 to 8 degrees, or over 64 points), 16 (a degree), 1 (not as many coefficients as the degrees say),
+ * for each polynomial in turn 5 and 17, then 6 (a point), and 15 (out is shorter than the card). A refusal writes nothing; past the card out keeps what
+ * lay there. */
+struct tarski_written tarski_write(const size_t *degrees, size_t degree_count, const int64_t *coefficients, size_t coefficient_count,
+                                   const int64_t *points, size_t point_count, uint8_t *out, size_t out_length);
+/* Writes to out the card that a seed draws: so many polynomials, all of this degree, and so many points. Refused by 3, 16 and 15 in this order; a refusal
+ * writes nothing, and past the card out keeps what lay there. TARSKI_LONGEST_CARD bytes have room for any. */
+struct tarski_written tarski_draw(uint32_t seed, size_t polynomials, size_t points, size_t degree, uint8_t *out, size_t out_length);
 
 /* ---- the solver */
 
@@ -221,6 +239,7 @@ TARSKI_LAID_OUT(offsetof(struct tarski_run, answers) == 440);
 TARSKI_LAID_OUT(sizeof(struct tarski_step) == 4 && offsetof(struct tarski_step, value) == 2);
 TARSKI_LAID_OUT(sizeof(struct tarski_row) == 6 && offsetof(struct tarski_row, count) == 2 && offsetof(struct tarski_row, refusal) == 4);
 TARSKI_LAID_OUT(sizeof(struct tarski_copied) == 16 && offsetof(struct tarski_copied, refusal) == 8);
+TARSKI_LAID_OUT(sizeof(struct tarski_written) == 16 && offsetof(struct tarski_written, refusal) == 8);
 #undef TARSKI_LAID_OUT
 #endif
 

@@ -5,7 +5,7 @@ use std::fmt;
 use std::mem::{offset_of, size_of};
 
 /// The version of this module and of the library beside it.
-pub const VERSION: (u32, u32, u32) = (0, 2, 0);
+pub const VERSION: (u32, u32, u32) = (0, 3, 0);
 /// The most polynomials and the most points of a card, and the most rows of a run.
 pub const MOST_POLYNOMIALS: usize = 8;
 pub const MOST_POINTS: usize = 64;
@@ -54,7 +54,7 @@ impl Refusal {
     /// What the number means, in words.
     pub fn text(self) -> &'static str {
         match self {
-            Refusal::WRONG_LENGTH => "the card is shorter or longer than it says",
+            Refusal::WRONG_LENGTH => "the card is shorter or longer than it says, or a list of coefficients is not as long as the degrees say",
             Refusal::WRONG_BYTE => "byte 0 or byte 3 is wrong",
             Refusal::WRONG_COUNT => "s is not 1 to 8, or n is above 64",
             Refusal::WRONG_OFFSET => "an offset is not where its body begins",
@@ -157,12 +157,29 @@ mod c {
         pub refusal: u16,
     }
 
+    #[repr(C)]
+    pub struct Written {
+        pub length: usize,
+        pub refusal: u16,
+    }
+
     extern "C" {
         pub fn tarski_check(card: *const u8, length: usize) -> Card;
         pub fn tarski_value(card: *const u8, length: usize, position: usize, x: i8) -> Number;
         pub fn tarski_query(card: *const u8, length: usize, product: Product) -> Number;
         pub fn tarski_open(card: *const u8, length: usize) -> Opened;
         pub fn tarski_ask(card: *const Opened, product: Product) -> Number;
+        pub fn tarski_write(
+            degrees: *const usize,
+            degree_count: usize,
+            coefficients: *const i64,
+            coefficient_count: usize,
+            points: *const i64,
+            point_count: usize,
+            out: *mut u8,
+            room: usize,
+        ) -> Written;
+        pub fn tarski_draw(seed: u32, polynomials: usize, points: usize, degree: usize, out: *mut u8, room: usize) -> Written;
         pub fn tarski_adapted(s: usize, patterns: *const Pattern, count: usize, out: *mut Product, room: usize) -> u16;
         pub fn tarski_solve(s: usize, patterns: *const Pattern, count: usize, numbers: *const i64, number_count: usize, out: *mut i64, room: usize) -> u16;
         pub fn tarski_start(run: *mut Run, s: usize) -> Step;
@@ -186,6 +203,7 @@ const _: () = {
     assert!(size_of::<c::Step>() == 4 && offset_of!(c::Step, value) == 2);
     assert!(size_of::<c::Row>() == 6 && offset_of!(c::Row, count) == 2 && offset_of!(c::Row, refusal) == 4);
     assert!(size_of::<c::Copied>() == 16 && offset_of!(c::Copied, refusal) == 8);
+    assert!(size_of::<c::Written>() == 16 && offset_of!(c::Written, refusal) == 8);
 };
 
 fn unless<T>(refusal: u16, value: T) -> Result<T, Refusal> {
@@ -242,6 +260,30 @@ impl Opened {
         let answer = unsafe { c::tarski_ask(self, product) };
         unless(answer.refusal, answer.number)
     }
+}
+
+/// Writes to the front of out the card of polynomials of these degrees, whose coefficients stand in one list, P1 first and constant first, and of these
+/// points; its length.
+pub fn write(degrees: &[usize], coefficients: &[i64], points: &[i64], out: &mut [u8]) -> Result<usize, Refusal> {
+    let written = unsafe {
+        c::tarski_write(
+            degrees.as_ptr(),
+            degrees.len(),
+            coefficients.as_ptr(),
+            coefficients.len(),
+            points.as_ptr(),
+            points.len(),
+            out.as_mut_ptr(),
+            out.len(),
+        )
+    };
+    unless(written.refusal, written.length)
+}
+
+/// Writes to the front of out the card that a seed draws: so many polynomials of this degree, and so many points; its length.
+pub fn draw(seed: u32, polynomials: usize, points: usize, degree: usize, out: &mut [u8]) -> Result<usize, Refusal> {
+    let written = unsafe { c::tarski_draw(seed, polynomials, points, degree, out.as_mut_ptr(), out.len()) };
+    unless(written.refusal, written.length)
 }
 
 /// Writes to the front of out the adapted list of the patterns: as many products.

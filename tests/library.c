@@ -27,6 +27,8 @@ static struct tarski_opened (*open_card)(const uint8_t *, size_t) = tarski_open;
 static struct tarski_number (*volatile ask_of)(const struct tarski_opened *, struct tarski_product) = tarski_ask;
 static uint16_t (*adapted)(size_t, const struct tarski_pattern *, size_t, struct tarski_product *, size_t) = tarski_adapted;
 static uint16_t (*solve)(size_t, const struct tarski_pattern *, size_t, const int64_t *, size_t, int64_t *, size_t) = tarski_solve;
+static struct tarski_written (*write_card)(const size_t *, size_t, const int64_t *, size_t, const int64_t *, size_t, uint8_t *, size_t) = tarski_write;
+static struct tarski_written (*draw_card)(uint32_t, size_t, size_t, size_t, uint8_t *, size_t) = tarski_draw;
 static struct tarski_step (*start)(struct tarski_run *, size_t) = tarski_start;
 static struct tarski_step (*answer)(struct tarski_run *, int64_t) = tarski_answer;
 static size_t (*asked_by)(const struct tarski_run *) = tarski_asked;
@@ -35,6 +37,7 @@ static struct tarski_copied (*rows_of)(const struct tarski_run *, struct tarski_
 
 static void types(void) {
     SEE(check && value_of && query_of && open_card && ask_of && adapted && solve && start && answer && asked_by && row_of && rows_of);
+    SEE(write_card && draw_card);
 }
 
 static struct tarski_product product(unsigned number) {
@@ -164,6 +167,55 @@ static void solver(void) {
     SEE(found[0] == 3 && found[1] == -2 && found[2] == 1 && found[3] == 4711);
 }
 
+/* A buffer as it was: every byte is 90. */
+static uint8_t buffer[TARSKI_LONGEST_CARD + 1];
+
+static int untouched(size_t from) {
+    while (from < sizeof buffer && buffer[from] == 90)
+        from++;
+    return from == sizeof buffer;
+}
+
+static void written(void) {
+    static const size_t degrees[9] = {1, 1, 1, 0, 0, 0, 0, 0, 0};
+    static const size_t high[2] = {7, 0};
+    static const int64_t numbers[6] = {0, 1, 1, 1, -2, 1}, points[65] = {-3, 1, 3}, falling[2] = {1, 0}, far[1] = {-101};
+    static const int64_t large[6] = {0, 1, 1, -1000001, -2, 1}, top[6] = {0, 0, 1, -1000001, -2, 1}, least[6] = {0, 1, 1, INT64_MIN, -2, 0};
+    struct tarski_written made;
+    memset(buffer, 90, sizeof buffer);
+    made = tarski_write(degrees, 0, numbers, 0, points, 65, buffer, 0);
+    SEE(made.refusal == TARSKI_WRONG_COUNT && made.length == 0);
+    SEE(tarski_write(degrees, 9, numbers, 6, points, 3, buffer, sizeof buffer).refusal == TARSKI_WRONG_COUNT);
+    SEE(tarski_write(high, 2, numbers, 6, points, 65, buffer, sizeof buffer).refusal == TARSKI_WRONG_COUNT);
+    SEE(tarski_write(high, 2, numbers, 6, points, 3, buffer, sizeof buffer).refusal == TARSKI_WRONG_DEGREE);
+    SEE(tarski_write(degrees, 3, numbers, 5, far, 1, buffer, sizeof buffer).refusal == TARSKI_WRONG_LENGTH);
+    SEE(tarski_write(degrees, 3, large, 6, far, 1, buffer, sizeof buffer).refusal == TARSKI_WRONG_COEFFICIENT);
+    SEE(tarski_write(degrees, 3, least, 6, far, 1, buffer, sizeof buffer).refusal == TARSKI_WRONG_COEFFICIENT);
+    SEE(tarski_write(degrees, 3, top, 6, far, 1, buffer, sizeof buffer).refusal == TARSKI_ZERO_TOP);
+    SEE(tarski_write(degrees, 3, numbers, 6, far, 1, buffer, 0).refusal == TARSKI_WRONG_POINT);
+    SEE(tarski_write(degrees, 3, numbers, 6, falling, 2, buffer, 0).refusal == TARSKI_WRONG_POINT);
+    made = tarski_write(degrees, 3, numbers, 6, points, 3, buffer, 41);
+    SEE(made.refusal == TARSKI_TOO_SHORT && made.length == 0 && untouched(0));
+    made = tarski_write(degrees, 3, numbers, 6, points, 3, buffer, sizeof buffer);
+    SEE(made.refusal == 0 && made.length == 42 && memcmp(buffer, card, 42) == 0 && untouched(42));
+}
+
+static void drawn(void) {
+    /* seed 0, one polynomial of degree 0 and one point */
+    static const uint8_t first[14] = {1, 1, 1, 0, 0, 8, 0, 13, 0, 0xff, 0xff, 0xff, 0xfb, 0x42};
+    struct tarski_written made;
+    memset(buffer, 90, sizeof buffer);
+    SEE(tarski_draw(0, 0, 65, 7, buffer, 0).refusal == TARSKI_WRONG_COUNT && tarski_draw(0, 9, 0, 7, buffer, 0).refusal == TARSKI_WRONG_COUNT);
+    SEE(tarski_draw(0, 8, 65, 7, buffer, 0).refusal == TARSKI_WRONG_COUNT && tarski_draw(0, 8, 64, 7, buffer, 0).refusal == TARSKI_WRONG_DEGREE);
+    made = tarski_draw(0, 1, 1, 0, buffer, 13);
+    SEE(made.refusal == TARSKI_TOO_SHORT && made.length == 0 && untouched(0));
+    made = tarski_draw(0, 1, 1, 0, buffer, sizeof buffer);
+    SEE(made.refusal == 0 && made.length == 14 && memcmp(buffer, first, 14) == 0 && untouched(14));
+    made = tarski_draw(UINT32_MAX, 8, 64, 6, buffer, sizeof buffer);
+    SEE(made.refusal == 0 && made.length == TARSKI_LONGEST_CARD && untouched(TARSKI_LONGEST_CARD));
+    SEE(tarski_check(buffer, made.length).polynomials == 8 && tarski_check(buffer, made.length).points == 64);
+}
+
 /* A record with memory after it, filled with a byte. */
 struct guarded {
     struct tarski_run run;
@@ -240,6 +292,7 @@ static void nothing(void) {
     struct tarski_step step = tarski_start(&run, 1);
     SEE(tarski_check(NULL, 0).refusal == TARSKI_WRONG_LENGTH && tarski_open(NULL, 0).refusal == TARSKI_WRONG_LENGTH);
     SEE(tarski_query(NULL, 0, product(0)).refusal == TARSKI_WRONG_LENGTH && tarski_value(NULL, 0, 0, 0).refusal == TARSKI_WRONG_LENGTH);
+    SEE(tarski_write(NULL, 0, NULL, 0, NULL, 0, NULL, 0).refusal == TARSKI_WRONG_COUNT && tarski_draw(1, 1, 0, 0, NULL, 0).refusal == TARSKI_TOO_SHORT);
     SEE(tarski_adapted(1, NULL, 0, NULL, 0) == 0 && tarski_solve(1, NULL, 0, NULL, 0, NULL, 0) == 0);
     step = tarski_answer(&run, 0);
     SEE(step.kind == TARSKI_DONE && tarski_rows(&run, NULL, 0, NULL, 0).refusal == 0 && tarski_rows(&run, NULL, 0, NULL, 0).rows == 0);
@@ -260,13 +313,15 @@ int main(int count, char **words) {
     length = fread(card, 1, sizeof card, file);
     fclose(file);
     SEE(length == 42);
-    SEE(strcmp(TARSKI_VERSION, "0.2.0") == 0 && TARSKI_VERSION_MAJOR == 0 && TARSKI_VERSION_MINOR == 2 && TARSKI_VERSION_PATCH == 0);
+    SEE(strcmp(TARSKI_VERSION, "0.3.0") == 0 && TARSKI_VERSION_MAJOR == 0 && TARSKI_VERSION_MINOR == 3 && TARSKI_VERSION_PATCH == 0);
     if (!wrong) {
         types();
         cards();
         queries();
         registers();
         solver();
+        written();
+        drawn();
         runs();
         closed();
         nothing();

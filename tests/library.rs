@@ -63,6 +63,30 @@ fn solver(card: &[u8]) {
     assert_eq!(found, [3, -2, 1, 4711]);
 }
 
+fn written(card: &[u8]) {
+    let (degrees, numbers, points) = ([1, 1, 1], [0, 1, 1, 1, -2, 1], [-3, 1, 3]);
+    let mut out = [90; tarski::LONGEST_CARD + 1];
+    assert_eq!(tarski::write(&[], &numbers, &points, &mut out), Err(Refusal::WRONG_COUNT));
+    assert_eq!(tarski::write(&degrees, &numbers, &[0; 65], &mut out), Err(Refusal::WRONG_COUNT));
+    assert_eq!(tarski::write(&[1, 7, 1], &numbers, &points, &mut out), Err(Refusal::WRONG_DEGREE));
+    assert_eq!(tarski::write(&degrees, &numbers[..5], &points, &mut out), Err(Refusal::WRONG_LENGTH));
+    assert_eq!(tarski::write(&degrees, &[0, 1, 1, i64::MIN, -2, 0], &points, &mut out), Err(Refusal::WRONG_COEFFICIENT));
+    assert_eq!(tarski::write(&degrees, &[0, 0, 1, i64::MIN, -2, 1], &points, &mut out), Err(Refusal::ZERO_TOP));
+    assert_eq!(tarski::write(&degrees, &numbers, &[1, 0], &mut []), Err(Refusal::WRONG_POINT));
+    assert_eq!(tarski::write(&degrees, &numbers, &points, &mut out[..41]), Err(Refusal::TOO_SHORT));
+    assert_eq!(out, [90; tarski::LONGEST_CARD + 1]);
+    assert_eq!(tarski::write(&degrees, &numbers, &points, &mut out), Ok(42));
+    assert_eq!((&out[..42], out[42]), (card, 90));
+    assert_eq!(tarski::draw(7, 9, 0, 7, &mut out), Err(Refusal::WRONG_COUNT));
+    assert_eq!(tarski::draw(7, 8, 64, 7, &mut out), Err(Refusal::WRONG_DEGREE));
+    assert_eq!(tarski::draw(7, 8, 64, 6, &mut out[..317]), Err(Refusal::TOO_SHORT));
+    assert_eq!(tarski::draw(0, 1, 1, 0, &mut out), Ok(14));
+    assert_eq!(out[..14], [1, 1, 1, 0, 0, 8, 0, 13, 0, 0xff, 0xff, 0xff, 0xfb, 0x42]);
+    assert_eq!(out[14..42], card[14..]);
+    assert_eq!(tarski::draw(u32::MAX, 8, 64, 6, &mut out), Ok(318));
+    assert_eq!((tarski::check(&out[..318]), out[318]), (Ok((8, 64)), 90));
+}
+
 fn runs(card: &[u8]) {
     let opened = tarski::open(card).unwrap();
     assert_eq!(Run::start(9).1, Step::Refused(Refusal::WRONG_COUNT));
@@ -100,12 +124,13 @@ fn main() {
     }
     let card = std::fs::read(word).unwrap();
     assert_eq!(card.len(), 42);
-    assert_eq!(tarski::VERSION, (0, 2, 0));
+    assert_eq!(tarski::VERSION, (0, 3, 0));
     assert_eq!(Refusal(3).to_string(), "refused by 3: s is not 1 to 8, or n is above 64");
     let limits = [tarski::MOST_POLYNOMIALS, tarski::MOST_POINTS, tarski::MOST_ROWS, tarski::MOST_QUESTIONS, tarski::LONGEST_CARD, tarski::MOST_STACK];
     assert_eq!(limits, [8, 64, 64, 593, 318, 32768]);
     cards(&card);
     solver(&card);
+    written(&card);
     runs(&card);
     println!("every call gives what it must");
 }

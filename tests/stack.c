@@ -54,6 +54,8 @@ static struct tarski_pattern patterns[64];
 static struct tarski_product products[64];
 static uint16_t counts[64];
 static int64_t numbers[64], found[64];
+static const size_t degrees[8] = {6, 6, 6, 6, 6, 6, 6, 6};
+static int64_t coefficients[56], points[64];
 static int64_t answer;
 static uint64_t sum; /* so that no result is dropped */
 
@@ -65,6 +67,8 @@ static void open(void) { opened = tarski_open(card, length); }
 static void ask(void) { sum += (uint64_t)tarski_ask(&opened, products[1]).number; }
 static void adapted(void) { sum += tarski_adapted(8, patterns, 64, products, 64); }
 static void solve(void) { sum += tarski_solve(8, patterns, 64, numbers, 64, found, 64); }
+static void put(void) { sum += tarski_write(degrees, 8, coefficients, 56, points, 64, card, sizeof card).length; }
+static void draw(void) { sum += tarski_draw(7, 8, 64, 6, card, sizeof card).length; }
 static void start(void) { step = tarski_start(&run, 8); }
 static void give(void) { step = tarski_answer(&run, answer); }
 static void asked(void) { sum += tarski_asked(&run); }
@@ -124,6 +128,12 @@ int main(int count, char **words) {
         if (opened.refusal)
             return 2;
     }
+    for (int k = 0; k < 56; k++)
+        coefficients[k] = 1;
+    see("write", put);
+    if (tarski_check(card, TARSKI_LONGEST_CARD).points != 64)
+        puts("not written"), exit(1);
+    see("draw", draw);
     for (int k = 0; k < 64; k++)
         patterns[k].number = (uint16_t)k;
     play("0 to 63");

@@ -1,6 +1,6 @@
 -- The numbers that refuse (document 01, "Cause, and what the caller gets"; from 16 on, document 02), and causes in order.
 --
---   wrongLength      == 1, the card is shorter or longer than it says
+--   wrongLength      == 1, the card is shorter or longer than it says, or a list of coefficients is not as long as the degrees say
 --   wrongByte        == 2, byte 0 or byte 3 is wrong
 --   wrongCount       == 3, s or n is outside its limits
 --   wrongOffset      == 4, an offset is other than the place its body begins

@@ -7,7 +7,7 @@ ghost use Rattle.refusals.specs.Numbers.{isAmong, cardNumbers};
 
 pub const NONE: u16 = 0; // not refused
 
-pub const WRONG_LENGTH: u16 = 1; // the card is shorter or longer than it says
+pub const WRONG_LENGTH: u16 = 1; // the card is shorter or longer than it says, or a list of coefficients is not as long as the degrees say
 
 pub const WRONG_BYTE: u16 = 2; // byte 0 or byte 3 is wrong
 

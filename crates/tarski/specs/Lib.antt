@@ -1,3 +1,4 @@
 pub mod Flat
 pub mod Plain
 pub mod Claim
+pub mod Written

@@ -8,11 +8,15 @@ ghost use Rattle.solver.specs.Solving.{solveOf};
 ghost use Rattle.query.specs.Opened.{opened, openedAnswer as askedOf};
 ghost use Rattle.runs.specs.Run.{fetchOf, copyOf};
 ghost use Rattle.determination.specs.Record.{stateOf, stepOf};
+ghost use Rattle.card_writer.specs.Writing.{writing};
+ghost use Rattle.card_draw.specs.Drawn.{drawing};
+ghost use Rattle.tarski.specs.Written.{writtenOf};
 ghost use Rattle.tarski.specs.Flat.{cardOf, valueOf, numberOf, refusalOf, listRefusalOf, flatStepOf, AnswerGivesFlat, StartGivesFlat, rowOf, leftOf};
 use adapted_list::Listed;
 use adapted_list::adapted_list;
 use card::Card;
 use card::Evaluated;
+use card_writer::Written;
 use determination::Copied;
 use determination::Fetched;
 use determination::Run;
@@ -72,6 +76,13 @@ pub struct FlatRow {
 #[repr(C)]
 pub struct FlatCopied {
     pub rows: usize,
+    pub refusal: u16,
+}
+
+// How many bytes the card written has, or the number that refuses it.
+#[repr(C)]
+pub struct FlatWritten {
+    pub length: usize,
     pub refusal: u16,
 }
 
@@ -164,6 +175,53 @@ pub extern "C" fn tarski_ask(card: &Opened, product: u16) -> Number
     ensures { λ r. ⌜ r ≡ numberOf (askedOf (now (card .entry)) product) ⌝ }
 {
     number_on(*card, product)
+}
+
+// ---- cards written and drawn
+
+// A card's length as plain numbers.
+fn flat_written(answer: Written) -> FlatWritten
+    ensures { λ r. ⌜ r ≡ writtenOf answer ⌝ }
+{
+    match answer {
+        Written::Length(n) => FlatWritten {
+            length: n,
+            refusal: NONE,
+        },
+        Written::Refused(k) => FlatWritten {
+            length: 0,
+            refusal: k,
+        },
+    }
+}
+
+// Writes to out the card of these degrees, coefficients and points.
+#[no_mangle]
+pub extern "C" fn tarski_write(
+    degrees: &[usize],
+    coefficients: &[i64],
+    points: &[i64],
+    out: &mut [u8],
+) -> FlatWritten
+    ensures { λ r. ⌜ r ≡ writtenOf (writing (now (degrees .entry)) (now (coefficients .entry)) (now (points .entry)) (now (out .entry)) .0) ⌝ }
+    ensures { λ _. ⌜ now (out .exit) ≡ writing (now (degrees .entry)) (now (coefficients .entry)) (now (points .entry)) (now (out .entry)) .1 ⌝ }
+{
+    flat_written(card_writer::write(degrees, coefficients, points, out))
+}
+
+// Writes to out the card of s polynomials of degree d and n points that the seed draws.
+#[no_mangle]
+pub extern "C" fn tarski_draw(
+    seed: u32,
+    s: usize,
+    n: usize,
+    d: usize,
+    out: &mut [u8],
+) -> FlatWritten
+    ensures { λ r. ⌜ r ≡ writtenOf (drawing seed s n d (now (out .entry)) .0) ⌝ }
+    ensures { λ _. ⌜ now (out .exit) ≡ drawing seed s n d (now (out .entry)) .1 ⌝ }
+{
+    flat_written(card_draw::draw(seed, s, n, d, out))
 }
 
 // ---- the solver

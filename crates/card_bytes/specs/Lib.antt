@@ -1,0 +1,4 @@
+pub mod Bytes
+pub mod Causes
+pub mod Lists
+pub mod Claim

@@ -1,0 +1,4 @@
+pub mod Drawing
+pub mod Storing
+pub mod Calls
+pub mod Examples
