@@ -155,7 +155,7 @@ def put(l, k, a):
 
 def damages(degrees, coefficients, points, rng):
     """Every cause at every place: each a function of the three lists and the room, so that two can be joined."""
-    found = [lambda D, C, P, r: ([], C, P, r), lambda D, C, P, r: (D + [0] * (9 - len(D)), C, P, r), lambda D, C, P, r: (D, C, P + [100] * 65, r)]
+    found = [lambda D, C, P, r: ([], C, P, r), lambda D, C, P, r: (D + [0] * (9 - len(D)), C, P, r), lambda D, C, P, r: (D, C, (P + [100] * 65)[:65], r)]
     found += [lambda D, C, P, r: (D, C[:-1], P, r), lambda D, C, P, r: (D, C + [1], P, r), lambda D, C, P, r: (D, [], P, r)]
     found += [lambda D, C, P, r: (D, C, P, max(0, r - 1)), lambda D, C, P, r: (D, C, P, 0)]
     for j in range(len(degrees)):

@@ -3,3 +3,4 @@ pub mod Lent
 pub mod DemandTwo
 pub mod DemandThree
 pub mod DemandOne
+pub mod Written

@@ -41,9 +41,9 @@ card-long c =
 returns-2 : tie.Need-returns-2
 returns-2 c =
     let a = c .before .before .before .before .before .before .args in
-    let w = writing-short (a .degrees .now) (a .coefficients .now) (a .points .now) (a .out .now) (unrefused (c .before .before))
+    let v = writing-short (a .degrees .now) (a .coefficients .now) (a .points .now) (a .out .now) (unrefused (c .before .before))
     (omega (arith, card-long (c .before), c .if2 .taken)) in
-    (sym (ap (λ p. p .0) w), sym (ap (λ p. p .1) w))
+    (sym (ap (λ p. p .0) v), sym (ap (λ p. p .1) v))
 
 put-card-requires : tie.Need-put-card-requires
 put-card-requires c κs =
