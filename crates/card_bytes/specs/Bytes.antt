@@ -1,5 +1,5 @@
--- The bytes of a card by what it says (document 01, "The card"): the degrees of its polynomials, their coefficients in one list, P1 first and
--- constant first, and its points.
+-- The bytes of a card by what it says (document 01, "The card"): the degrees of its polynomials, their coefficients in one list, P1 first
+-- and constant first, and its points.
 --
 --   bytes k v          == the number v in k bytes, high byte first
 --   complement h z     == z in two's complement: itself from 0 on, and z + 2h below 0

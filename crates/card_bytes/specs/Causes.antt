@@ -1,13 +1,13 @@
--- Which degrees, coefficients and points are refused, and by which number (document 02, wish 2: "refusing s and n .. by 3, then degrees by 16,
--- then a coefficient list not as long as they say by 1, then 5 and 17 for each polynomial, then points by 6").
+-- Which degrees, coefficients and points are refused, and by which number (document 02, wish 2: "refusing s and n .. by 3, then degrees
+-- by 16, then a coefficient list not as long as they say by 1, then 5 and 17 for each polynomial, then points by 6").
 --
---   some f l              == f holds of an element of l
---   below x l             == the first element of l, if there is one, is below x
---   wrongPoints ps        == a point is outside its limits, or below the one before it
---   polynomialCause d l   == the number that refuses the coefficients l of a polynomial of degree d, or 0
---   polynomialsCause ds cs == the number that refuses the first wrong one of the polynomials of the degrees ds, whose coefficients stand one
---                            after the other in cs, or 0
---   writeCause ds cs ps   == the number that refuses the degrees ds, the coefficients cs and the points ps, or 0
+--   some f l               == f holds of an element of l
+--   below x l              == the first element of l, if there is one, is below x
+--   wrongPoints ps         == a point is outside its limits, or below the one before it
+--   polynomialCause d l    == the number that refuses the coefficients l of a polynomial of degree d, or 0
+--   polynomialsCause ds cs == the number that refuses the first wrong one of the polynomials of the degrees ds, whose coefficients stand
+--                             one after the other in cs, or 0
+--   writeCause ds cs ps    == the number that refuses the degrees ds, the coefficients cs and the points ps, or 0
 use mathlib.Core.Bool.{Bool, false, not, _||_, _&&_}
 use mathlib.Core.List.{List, [], _∷_}
 use Prim.Native.Nat.{ℕ, _+_}

@@ -50,7 +50,7 @@ fn has_high(degrees: &[usize]) -> bool
 }
 
 // How many coefficients polynomials of these degrees have.
-pub fn wanted(degrees: &[usize]) -> usize
+fn wanted(degrees: &[usize]) -> usize
     requires { ⌜ (length (now degrees) ≤ mostPolynomials) × (some (ltb mostDegree) (now degrees) ≡ false) ⌝ }
     ensures { λ r. ⌜ r ≡ wanted (now (degrees .entry)) ⌝ }
 {

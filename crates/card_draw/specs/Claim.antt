@@ -1,11 +1,12 @@
 -- What a call that draws a card gives, in the words of document 02, wish 2, and apart from the definition that its contract cites. That the
 -- call keeps it, known by its contract alone, is proofs/Calls.antt.
 --
---   Counted s n               == there are 1 to 8 polynomials and at most 64 points
---   cardSize s n d            == how many bytes a card of s polynomials of degree d and n points has
---   IsDrawn seed s n d c      == the card c is sound, with s polynomials of degree d, n points, and the coefficients and points drawn
---   DrawGives seed s n d out o out′ == a call on the seed, s, n, d and the buffer out answers o and leaves out′: refused by 3, 16 and 15 in this
---                                order, each exactly for its cause and leaving the buffer as it was; else the card is written
+--   Counted s n          == there are 1 to 8 polynomials and at most 64 points
+--   cardSize s n d       == how many bytes a card of s polynomials of degree d and n points has
+--   IsDrawn seed s n d c == the card c is sound, with s polynomials of degree d, n points, and the coefficients and points drawn
+--   DrawGives seed s n d out o out′
+--                        == a call on the seed, s, n, d and the buffer out answers o and leaves out′: refused by 3, 16 and 15 in this
+--                           order, each for its cause and leaving the buffer as it was; else the card is written, and it is the one drawn
 use mathlib.Core.Path.{_≡_}
 use mathlib.Core.List.{List}
 use Prim.Native.Nat.{ℕ, _+_, _*_, _<_, _≤_}

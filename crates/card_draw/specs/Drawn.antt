@@ -1,13 +1,12 @@
 -- The card that a seed draws (document 02, wish 2), and what a call that draws one answers and leaves in the buffer lent to it.
 --
---   top d z                  == the top coefficient z of a polynomial of degree d, as it is drawn: "A top coefficient of 0 becomes 1 when d is
---                               above 0"
---   drawnPolynomial d σ      == the coefficients of a polynomial of degree d, drawn from the state σ on: each "a draw below 19, less 9"
---   drawnCoefficients s d σ  == the coefficients of s polynomials, "P1 first, constant first"
---   drawnPoints n σ          == n points, "each a draw below 201, less 100, then put in rising order, repeats kept"
---   drawnCard seed s n d     == the card of s polynomials of degree d and n points; "Points come next": after the coefficients
---   drawCause s n d          == "In a draw s and n are refused by 3, then d by 16"
---   drawing seed s n d out   == the answer of a call with the buffer out, and what the buffer holds then
+--   top d z                 == the top coefficient z of a polynomial of degree d: "A top coefficient of 0 becomes 1 when d is above 0"
+--   drawnPolynomial d σ     == the coefficients of a polynomial of degree d, drawn from the state σ on: each "a draw below 19, less 9"
+--   drawnCoefficients s d σ == the coefficients of s polynomials, "P1 first, constant first"
+--   drawnPoints n σ         == n points, "each a draw below 201, less 100, then put in rising order, repeats kept"
+--   drawnCard seed s n d    == the card of s polynomials of degree d and n points; "Points come next": after the coefficients
+--   drawCause s n d         == "In a draw s and n are refused by 3, then d by 16": the number, or 0
+--   drawing seed s n d out  == the answer of a call with the buffer out, and what the buffer holds then
 use mathlib.Core.Bool.{cond, _||_, _&&_}
 use mathlib.Core.List.{List, [], _++_}
 use Prim.Native.Nat.{ℕ, zero, suc, _+_, _*_}

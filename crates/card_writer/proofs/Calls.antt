@@ -27,10 +27,12 @@ module _ (c out : List ℕ) where
   placed-refused zero k h = absurd (omega arith)
   placed-refused (suc m) k h = record { answer = refl; kept = refl }
 
-  pub placed-short : (m : ℕ) → m ≡ 0 → length out < length c → Kept 15 out (placed (m ▸ bufferCause c out) c out .0) (placed (m ▸ bufferCause c out) c out .1)
+  pub placed-short : (m : ℕ) → m ≡ 0 → length out < length c
+      → Kept 15 out (placed (m ▸ bufferCause c out) c out .0) (placed (m ▸ bufferCause c out) c out .1)
   placed-short m e h = rw (e, lt-ltb (length out) (length c) h) (record { answer = refl; kept = refl })
 
-  pub placed-whole : (m : ℕ) → m ≡ 0 → length c ≤ length out → Placed c out (placed (m ▸ bufferCause c out) c out .0) (placed (m ▸ bufferCause c out) c out .1)
+  pub placed-whole : (m : ℕ) → m ≡ 0 → length c ≤ length out
+      → Placed c out (placed (m ▸ bufferCause c out) c out .0) (placed (m ▸ bufferCause c out) c out .1)
   placed-whole m e h =
       rw (e, le-ltb (length out) (length c) h)
       (record { answer = refl; front = take-append-seam c (drop (length c) out); rest = drop-append-seam c (drop (length c) out) })
@@ -42,7 +44,8 @@ module _ (c out : List ℕ) where
 
 -- ---- the call
 
-pub writing-gives : (ds : List ℕ) (cs ps : List ℤ) (out : List ℕ) → WriteGives ds cs ps out (writing ds cs ps out .0) (writing ds cs ps out .1)
+pub writing-gives : (ds : List ℕ) (cs ps : List ℤ) (out : List ℕ)
+    → WriteGives ds cs ps out (writing ds cs ps out .0) (writing ds cs ps out .1)
 unfolding writing
 writing-gives ds cs ps out =
     let c = cardBytes ds cs ps in record {

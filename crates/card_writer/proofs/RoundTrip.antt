@@ -1,6 +1,6 @@
--- THEOREM of the code: the round trip (document 02, wish 2: "Each written card is read to the same polynomials and points, and each accepted
--- card is what the writer makes of them"), over the contracts of `write` and of the calls that read a card. The second half is of line cards:
--- byte 0 is 1.
+-- THEOREM of the code: the round trip (document 02, wish 2: "Each written card is read to the same polynomials and points, and each
+-- accepted card is what the writer makes of them"), over the contracts of `write` and of the calls that read a card. The second half is of
+-- line cards: byte 0 is 1.
 use mathlib.Core.Path.{_≡_, refl, ap, _∙_}
 use mathlib.Core.List.{List, _++_}
 use Prim.Native.Nat.{ℕ, zero, suc, _<_, _≤_}
@@ -73,7 +73,8 @@ module _ (κs : Lfts 4) (ds : RefT (List ℕ)) (cs ps : RefT (List ℤ)) (out ou
 module _ (κ : Lfts 1) (card : RefT (List ℕ)) (s n : ℕ) (read-it : read.Learnt κ (card, tt) (of-card.Sound s n) (card, tt))
     (bytes : Below 256 (now card)) (line : byte (now card) 0 ≡ 1)
     (κs : Lfts 4) (ds : RefT (List ℕ)) (cs ps : RefT (List ℤ)) (out out′ : RefT (List ℕ))
-    (degrees : now ds ≡ degreesOf (now card)) (coefficients : now cs ≡ coefficientsOf (now card)) (points : now ps ≡ pointsOf (now card)) where
+    (degrees : now ds ≡ degreesOf (now card)) (coefficients : now cs ≡ coefficientsOf (now card))
+    (points : now ps ≡ pointsOf (now card)) where
   -- "each accepted card is what the writer makes of them", where the buffer has room for it
   pub read-write : length (now card) ≤ length (now out) → (o : Written)
       → write.Learnt κs (ds, (cs, (ps, (out, tt)))) o (ds, (cs, (ps, (out′, tt))))

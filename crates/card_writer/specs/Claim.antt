@@ -1,12 +1,12 @@
--- What a call that writes a card gives, in the words of document 02, wish 2, and apart from the definition that its contract cites. That the
--- call keeps it, known by its contract alone, is proofs/Calls.antt.
+-- What a call that writes a card gives, in the words of document 02, wish 2, and apart from the definition that its contract cites. That
+-- the call keeps it, known by its contract alone, is proofs/Calls.antt.
 --
---   Placed c out o out′           == the card c is written: the answer o is its length, it stands at the front of the buffer, and what lies past
---                                    it is as it was
---   Kept m out o out′             == the number m refuses: it is the answer o, and the buffer is as it was
---   WriteGives ds cs ps out o out′ == a call on the degrees ds, the coefficients cs, the points ps and the buffer out answers o and leaves out′:
---                                    refused by the number of the first cause; then by 15, where the buffer is too short; else the card is
---                                    written
+--   Placed c out o out′ == the card c is written: the answer o is its length, it stands at the front of the buffer, and what lies past it
+--                          is as it was
+--   Kept m out o out′   == the number m refuses: it is the answer o, and the buffer is as it was
+--   WriteGives ds cs ps out o out′
+--                       == a call on the degrees ds, the coefficients cs, the points ps and the buffer out answers o and leaves out′:
+--                          refused by the number of the first cause; then by 15, where the buffer is too short; else the card is written
 use mathlib.Core.Path.{_≡_}
 use mathlib.Core.List.{List}
 use Prim.Native.Nat.{ℕ, _<_, _≤_}

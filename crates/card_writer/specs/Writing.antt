@@ -1,11 +1,11 @@
--- What a call that writes a card answers and leaves in the buffer lent to it (document 02, wish 2: "the result is the card's length, a short
--- buffer is 15, last, and a refusal writes nothing").
+-- What a call that writes a card answers and leaves in the buffer lent to it (document 02, wish 2: "the result is the card's length, a
+-- short buffer is 15, last, and a refusal writes nothing").
 --
---   bufferCause c out       == 15 where the buffer out is shorter than the card c, or 0
---   placed m c out          == the answer and the buffer where the number m refuses, or else the card c at the buffer's front: what lies past
---                              it is kept
---   writing ds cs ps out    == the answer of a call on the degrees ds, the coefficients cs, the points ps and the buffer out, and what the
---                              buffer holds then
+--   bufferCause c out    == 15 where the buffer out is shorter than the card c, or 0
+--   placed m c out       == the answer and the buffer: where the number m refuses, it and the buffer as it was; else the card's length, and
+--                           the card c at the buffer's front, what lies past it being kept
+--   writing ds cs ps out == the answer of a call on the degrees ds, the coefficients cs, the points ps and the buffer out, and what the
+--                           buffer holds then
 use mathlib.Core.List.{List, _++_}
 use Prim.Native.Nat.{ℕ}
 use lib.Dec.{ltb}

@@ -1,9 +1,10 @@
 -- Numbers in decimal, off their text in ASCII.
 --
---   largest        == 2^32 − 1
---   isDigit b      == the byte b is a digit
---   numeralFrom n l == the number whose digits are those of n and then the bytes l; none where a byte is no digit or the number is too large
---   numeralOf l    == the number that the text l is; the empty one is none
+--   largest         == 2^32 − 1
+--   isDigit b       == the byte b is a digit
+--   numeralFrom n l == the number whose digits are those of n and then the bytes l; none where a byte is no digit or the number is too
+--                      large
+--   numeralOf l     == the number that the text l is; the empty one is none
 use mathlib.Core.Bool.{Bool, cond, _&&_}
 use mathlib.Core.List.{List, [], _∷_}
 use Prim.Native.Nat.{ℕ, _+_, _*_, _-_}

@@ -1,6 +1,6 @@
 // The generator of drawn cards (document 02, wish 2): state = 1664525 × state + 1013904223, modulo 2^32, stepping before each use.
 //
-// The functions that have a `requires` are for the crates above, whose calls show it.
+// `draw_numbers` has a `requires`: it is for the crates above, whose calls show it.
 ghost use mathlib.Core.Path.{_≡_};
 ghost use Prim.Native.Nat.{_+_, _*_, _%_, _^_, _≤_, _<_};
 ghost use lib.ListN.{length};
@@ -13,21 +13,21 @@ const MULTIPLIER: u32 = 1664525;
 const INCREMENT: u32 = 1013904223;
 
 // a × b, modulo 2^32.
-pub fn wrapping_mul(a: u32, b: u32) -> u32
+fn wrapping_mul(a: u32, b: u32) -> u32
     ensures { λ r. ⌜ r ≡ (a * b) % 2 ^ 32 ⌝ }
 {
     ((a as u64) * (b as u64) % 4294967296) as u32
 }
 
 // The next state.
-pub fn step(state: u32) -> u32
+fn step(state: u32) -> u32
     ensures { λ r. ⌜ r ≡ step state ⌝ }
 {
     wrapping_add_u32(wrapping_mul(MULTIPLIER, state), INCREMENT)
 }
 
 // The draw below m that a state gives.
-pub fn below(state: u32, m: u32) -> u32
+fn below(state: u32, m: u32) -> u32
     requires { ⌜ 0 < m ⌝ }
     ensures { λ r. ⌜ (r ≡ below m state) × (r < m) ⌝ }
 {

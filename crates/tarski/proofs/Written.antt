@@ -1,5 +1,5 @@
--- THEOREM of the library for C: what it gives for cards written and drawn is what the claims of `card_writer` and `card_draw` say. A call is
--- known by its contract alone (`Learnt`), so that a weaker promise breaks the theorem.
+-- THEOREM of the library for C: what it gives for cards written and drawn is what the claims of `card_writer` and `card_draw` say. A call
+-- is known by its contract alone (`Learnt`), so that a weaker promise breaks the theorem.
 use mathlib.Core.Path.{_≡_, refl}
 use mathlib.Core.List.{List}
 use Prim.Native.Nat.{ℕ, zero, suc}

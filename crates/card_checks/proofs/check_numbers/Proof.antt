@@ -6,15 +6,9 @@ use Rattle.card_checks.proofs.Order.{then-first}
 use Rattle.card_checks.proofs.check_numbers.Statement.{statement}
 use Rattle.card_checks.proofs.check_numbers.Tie as tie
 
-check-polynomials-requires : tie.Need-check-polynomials-requires
-check-polynomials-requires c κs = search needs
-
 returns : tie.Need-returns
 returns c =
     let e = c .before .check-polynomials .ensures in e ∙ sym (then-first _ _ (λ z. c .if1 .taken (e ∙ z)))
-
-are-wrong-requires : tie.Need-are-wrong-requires
-are-wrong-requires c κs = search needs
 
 -- no polynomial is refused
 good : (c : tie.Else1)
@@ -29,4 +23,4 @@ returns-3 c = rw (good (c .before .before), sym (c .before .are-wrong .ensures) 
 
 pub check-numbers-spec : {M : Type 1} → statement M
 check-numbers-spec =
-    tie.close (tie.spec check-polynomials-requires returns are-wrong-requires returns-2 returns-3)
+    tie.close (tie.spec (λ c κs. search needs) returns (λ c κs. search needs) returns-2 returns-3)

@@ -8,20 +8,11 @@ use Rattle.card_checks.proofs.Coefficients.{cause-large, cause-constant
 use Rattle.card_checks.proofs.check_polynomial.Statement.{statement}
 use Rattle.card_checks.proofs.check_polynomial.Tie as tie
 
-has-large-requires : tie.Need-has-large-requires
-has-large-requires c κs = search needs
-
 returns : tie.Need-returns
 returns c = cause-large _ _ (sym (c .if1 .taken) ∙ c .before .has-large .ensures)
 
 returns-2 : tie.Need-returns-2
 returns-2 c = cause-constant _ _ (sym (c .before .if1 .left) ∙ c .before .before .has-large .ensures) (c .if2 .taken)
-
-mul-if3 : tie.Need-mul-if3
-mul-if3 c = search needs
-
-shared-slice-copy-out-if3 : tie.Need-shared-slice-copy-out-if3
-shared-slice-copy-out-if3 c = search needs
 
 returns-3 : tie.Need-returns-3
 returns-3 c =
@@ -37,11 +28,4 @@ returns-4 c =
 pub check-polynomial-spec : {M : Type 1} → statement M
 check-polynomial-spec =
     tie.close
-    (tie.spec
-    has-large-requires
-    returns
-    returns-2
-    mul-if3
-    shared-slice-copy-out-if3
-    returns-3
-    returns-4)
+    (tie.spec (λ c κs. search needs) returns returns-2 (λ c. search needs) (λ c. search needs) returns-3 returns-4)

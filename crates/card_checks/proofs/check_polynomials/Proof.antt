@@ -22,12 +22,6 @@ abbrev μ-loop : tie.MeasureT-loop
 loop-holds : tie.Need-loop-holds Inv-loop μ-loop
 loop-holds c = (refl, search needs)
 
-mul-d : tie.Need-mul-d Inv-loop μ-loop
-mul-d c = search needs
-
-shared-slice-read-d : tie.Need-shared-slice-read-d Inv-loop μ-loop
-shared-slice-read-d c = search needs
-
 -- the coefficients of polynomial j are there
 room : (c : tie.After-shared-slice-known2 Inv-loop μ-loop)
     → let at = c .before .before in
@@ -42,9 +36,6 @@ add-to c = omega (arith, room c)
 
 add-to-2 : tie.Need-add-to-2 Inv-loop μ-loop
 add-to-2 c = omega (arith, room c)
-
-mul-check-polynomial : tie.Need-mul-check-polynomial Inv-loop μ-loop
-mul-check-polynomial c = search needs
 
 sub-check-polynomial : tie.Need-sub-check-polynomial Inv-loop μ-loop
 sub-check-polynomial c = omega (arith, room c)
@@ -65,12 +56,6 @@ returns c =
     cause-found (s .args .degrees .now) (s .args .coefficients .now) (at .loop .j) (at .loop .from) _ (omega arith)
     (c .before .check-polynomial .ensures) (c .if1 .taken) (at .loop .inv .0)
 
-add-j : tie.Need-add-j Inv-loop μ-loop
-add-j c = search needs
-
-loop-less : tie.Need-loop-less Inv-loop μ-loop
-loop-less c = search needs
-
 loop-again : tie.Need-loop-again Inv-loop μ-loop
 loop-again c =
     let at = c .before .before .before .before .before in
@@ -89,21 +74,6 @@ returns-2 c =
 pub check-polynomials-spec : {M : Type 1} → statement M
 check-polynomials-spec =
     tie.close
-    (tie.spec
-    Inv-loop
-    μ-loop
-    loop-holds
-    mul-d
-    shared-slice-read-d
-    add-to
-    add-to-2
-    mul-check-polynomial
-    sub-check-polynomial
-    part-check-polynomial-start
-    part-check-polynomial-end
-    check-polynomial-requires
-    returns
-    add-j
-    loop-less
-    loop-again
-    returns-2)
+    (tie.spec Inv-loop μ-loop loop-holds (λ c. search needs) (λ c. search needs) add-to add-to-2 (λ c. search needs)
+    sub-check-polynomial part-check-polynomial-start part-check-polynomial-end check-polynomial-requires returns (λ c. search needs)
+    (λ c. search needs) loop-again returns-2)

@@ -22,15 +22,6 @@ abbrev μ-loop : tie.MeasureT-loop
 loop-holds : tie.Need-loop-holds Inv-loop μ-loop
 loop-holds c = refl
 
-mul-is-outside : tie.Need-mul-is-outside Inv-loop μ-loop
-mul-is-outside c = search needs
-
-shared-slice-copy-out-is-outside : tie.Need-shared-slice-copy-out-is-outside Inv-loop μ-loop
-shared-slice-copy-out-is-outside c = search needs
-
-is-outside-requires : tie.Need-is-outside-requires Inv-loop μ-loop
-is-outside-requires c κs = search needs
-
 -- what the test of the coefficient says
 tested : (c : tie.After-is-outside Inv-loop μ-loop)
     → let at = c .before .before .before in
@@ -42,12 +33,6 @@ returns c =
     let at = c .before .before .before .before in
     search-found (some-searches _) (at .before .args .coefficients .now) (at .loop .i) (pos 0) (omega arith)
     (tested (c .before) ∙ c .if1 .taken) (at .loop .inv)
-
-add-i : tie.Need-add-i Inv-loop μ-loop
-add-i c = search needs
-
-loop-less : tie.Need-loop-less Inv-loop μ-loop
-loop-less c = search needs
 
 loop-again : tie.Need-loop-again Inv-loop μ-loop
 loop-again c =
@@ -63,15 +48,5 @@ returns-2 c =
 pub has-large-spec : {M : Type 1} → statement M
 has-large-spec =
     tie.close
-    (tie.spec
-    Inv-loop
-    μ-loop
-    loop-holds
-    mul-is-outside
-    shared-slice-copy-out-is-outside
-    is-outside-requires
-    returns
-    add-i
-    loop-less
-    loop-again
-    returns-2)
+    (tie.spec Inv-loop μ-loop loop-holds (λ c. search needs) (λ c. search needs) (λ c κs. search needs) returns (λ c. search needs)
+    (λ c. search needs) loop-again returns-2)

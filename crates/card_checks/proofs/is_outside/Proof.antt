@@ -7,11 +7,8 @@ use Rattle.integers.proofs.I64.{back-64}
 use Rattle.card_checks.proofs.is_outside.Statement.{statement}
 use Rattle.card_checks.proofs.is_outside.Tie as tie
 
-magnitude-requires : tie.Need-magnitude-requires
-magnitude-requires c κs = search needs
-
 returns : tie.Need-returns
 returns c = ap (ltb (c .before .args .limit)) (c .magnitude .ensures ∙ ap natAbs (back-64 _ (c .before .fits .z)))
 
 pub is-outside-spec : {M : Type 1} → statement M
-is-outside-spec = tie.close (tie.spec magnitude-requires returns)
+is-outside-spec = tie.close (tie.spec (λ c κs. search needs) returns)

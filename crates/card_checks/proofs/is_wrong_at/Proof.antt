@@ -11,15 +11,6 @@ use Rattle.card_checks.proofs.Points.{wrong-outside, right-last, wrong-
 use Rattle.card_checks.proofs.is_wrong_at.Statement.{statement}
 use Rattle.card_checks.proofs.is_wrong_at.Tie as tie
 
-mul-x : tie.Need-mul-x
-mul-x c = search needs
-
-shared-slice-copy-out-x : tie.Need-shared-slice-copy-out-x
-shared-slice-copy-out-x c = search needs
-
-is-outside-requires : tie.Need-is-outside-requires
-is-outside-requires c κs = search needs
-
 -- what the test of point k says
 tested : (c : tie.After-is-outside)
     → let s = c .before .before in outside mostPoint (getD (s .args .points .now) (s .args .k) (pos 0)) ≡ c .is-outside .result
@@ -30,22 +21,10 @@ returns c =
     let s = c .before .before .before in
     wrong-outside (s .args .points .now) (s .args .k) (tested (c .before) ∙ c .if1 .taken)
 
-add-if2 : tie.Need-add-if2
-add-if2 c = search needs
-
 returns-2 : tie.Need-returns-2
 returns-2 c =
     let s = c .before .before .before .before in
     right-last (s .args .points .now) (s .args .k) (tested (c .before .before) ∙ c .before .if1 .left) (c .if2 .taken)
-
-add-result : tie.Need-add-result
-add-result c = search needs
-
-mul-result : tie.Need-mul-result
-mul-result c = search needs
-
-shared-slice-copy-out-result : tie.Need-shared-slice-copy-out-result
-shared-slice-copy-out-result c = search needs
 
 returns-3 : tie.Need-returns-3
 returns-3 c =
@@ -62,14 +41,5 @@ returns-3 c =
 pub is-wrong-at-spec : {M : Type 1} → statement M
 is-wrong-at-spec =
     tie.close
-    (tie.spec
-    mul-x
-    shared-slice-copy-out-x
-    is-outside-requires
-    returns
-    add-if2
-    returns-2
-    add-result
-    mul-result
-    shared-slice-copy-out-result
-    returns-3)
+    (tie.spec (λ c. search needs) (λ c. search needs) (λ c κs. search needs) returns (λ c. search needs) returns-2 (λ c. search needs)
+    (λ c. search needs) (λ c. search needs) returns-3)

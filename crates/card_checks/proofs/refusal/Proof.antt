@@ -19,9 +19,6 @@ returns-2 c = sym (write-many _ _ _ (c .before .if1 .left) (c .if2 .taken))
 returns-3 : tie.Need-returns-3
 returns-3 c = sym (write-points _ _ _ (c .before .before .if1 .left) (c .before .if2 .left) (c .if3 .taken))
 
-has-high-requires : tie.Need-has-high-requires
-has-high-requires c κs = search needs
-
 -- the counts are right
 counted : (c : tie.Else3)
     → let s = c .before .before .before .before in Counted (s .args .degrees .now) (s .args .points .now)
@@ -56,13 +53,4 @@ returns-6 c =
 pub refusal-spec : {M : Type 1} → statement M
 refusal-spec =
     tie.close
-    (tie.spec
-    returns
-    returns-2
-    returns-3
-    has-high-requires
-    returns-4
-    wanted-requires
-    returns-5
-    check-numbers-requires
-    returns-6)
+    (tie.spec returns returns-2 returns-3 (λ c κs. search needs) returns-4 wanted-requires returns-5 check-numbers-requires returns-6)

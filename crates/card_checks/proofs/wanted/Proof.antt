@@ -17,15 +17,6 @@ Inv-loop degrees sum₀ j₀ sum j = sum + wanted (drop j degrees) ≡ wanted de
 abbrev μ-loop : tie.MeasureT-loop
 μ-loop degrees sum₀ j₀ sum j = length degrees - j
 
-loop-holds : tie.Need-loop-holds Inv-loop μ-loop
-loop-holds c = omega arith
-
-mul-sum : tie.Need-mul-sum Inv-loop μ-loop
-mul-sum c = search needs
-
-shared-slice-read-sum : tie.Need-shared-slice-read-sum Inv-loop μ-loop
-shared-slice-read-sum c = search needs
-
 -- the sum stays small
 small : (c : tie.After-shared-slice-known Inv-loop μ-loop)
     → let at = c .before .before in at .loop .sum + (getD (at .before .args .degrees .now) (at .loop .j) 0 + 1) ≤ 7 * mostPolynomials
@@ -40,12 +31,6 @@ add-sum c = omega (arith, small c)
 add-sum-2 : tie.Need-add-sum-2 Inv-loop μ-loop
 add-sum-2 c = omega (arith, small c)
 
-add-j : tie.Need-add-j Inv-loop μ-loop
-add-j c = search needs
-
-loop-less : tie.Need-loop-less Inv-loop μ-loop
-loop-less c = search needs
-
 loop-again : tie.Need-loop-again Inv-loop μ-loop
 loop-again c =
     let at = c .before .before in omega (arith, wanted-here (at .before .args .degrees .now) (at .loop .j) (omega arith))
@@ -57,15 +42,5 @@ returns c =
 pub wanted-spec : {M : Type 1} → statement M
 wanted-spec =
     tie.close
-    (tie.spec
-    Inv-loop
-    μ-loop
-    loop-holds
-    mul-sum
-    shared-slice-read-sum
-    add-sum
-    add-sum-2
-    add-j
-    loop-less
-    loop-again
-    returns)
+    (tie.spec Inv-loop μ-loop (λ c. omega arith) (λ c. search needs) (λ c. search needs) add-sum add-sum-2 (λ c. search needs)
+    (λ c. search needs) loop-again returns)

@@ -17,7 +17,8 @@ returns c =
     (sym (ap (λ p. p .0) w), sym (ap (λ p. p .1) w))
 
 -- s, n and d are within their limits
-known : (c : tie.Else1) → Allowed (c .before .before .before .args .s) (c .before .before .before .args .n) (c .before .before .before .args .d)
+known : (c : tie.Else1)
+    → Allowed (c .before .before .before .args .s) (c .before .before .before .args .n) (c .before .before .before .args .d)
 known c = allowed _ _ _ (sym (c .before .check .ensures) ∙ c .if1 .left)
 
 add-many : tie.Need-add-many

@@ -15,7 +15,8 @@ returns : tie.Need-returns
 returns c =
     let a = c .before .before .before .before .args in
     let r = c .before .refusal in
-    let w = writing-refused (a .degrees .now) (a .coefficients .now) (a .points .now) (a .out .now) (r .result) (r .ensures) (c .if1 .taken) in
+    let w = writing-refused (a .degrees .now) (a .coefficients .now) (a .points .now) (a .out .now) (r .result) (r .ensures)
+    (c .if1 .taken) in
     (sym (ap (λ p. p .0) w), sym (ap (λ p. p .1) w))
 
 -- nothing refuses the numbers
