@@ -128,7 +128,7 @@ def draws(rng, count):
     seeds = [0, 1, 2 ** 32 - 1, 2 ** 31, 65535, 65536]
     for i in range(count):
         s, d, n = 1 + i % 8, i // 8 % 7, i // 56 % 65
-        seed = seeds[i % 7] if i % 7 < len(seeds) else rng.randrange(2 ** 32)
+        seed = seeds[i % 97] if i % 97 < len(seeds) else rng.randrange(2 ** 32)
         yield draw_call(seed, s, n, d, max(0, length(s, d, n) + rng.choice([0, 0, 0, 1, 9, -1, -1, -999])))
 
 
@@ -267,12 +267,13 @@ def show(seed, count, bases):
 
 
 def committed():
-    """The draws of document 02's seeds at both ends, the longest card, document 01's card, every cause at every place of it, and some pairs."""
+    """Draws of the seeds at both ends and of one that has a top coefficient replaced and a point twice, the longest card, document 01's card, every cause at
+    every place of it, and pairs of causes."""
     rng = random.Random(20261116)
     example = compare_cards.write([[0, 1], [1, 1], [-2, 1]], [-3, 1, 3])
     longest = compare_cards.write([[LARGEST] * 7] * 8, [FURTHEST] * 64)
     calls = [draw_call(seed, s, n, d, length(s, d, n) + 2) for seed in (0, 1, 2 ** 32 - 1) for s, n, d in ((1, 0, 0), (3, 5, 2), (8, 64, 6))]
-    calls += [draw_call(7, 8, 64, 6, 318), draw_call(7, 8, 64, 6, 317), draw_call(7, 9, 65, 7, 0), draw_call(7, 8, 65, 7, 0), draw_call(7, 8, 64, 7, 0)]
+    calls += [draw_call(2068, 2, 3, 1, 33), draw_call(7, 8, 64, 6, 318), draw_call(7, 8, 64, 6, 317), draw_call(7, 9, 65, 7, 0), draw_call(7, 8, 65, 7, 0), draw_call(7, 8, 64, 7, 0)]
     calls += [again(example), again(longest), write_call(*taken_apart(longest), 318), write_call(*taken_apart(longest), 317)]
     return calls + list(damaged(rng, example))
 

@@ -1,5 +1,4 @@
-// The checks before a card is written (document 02, wish 2), in its order. Each answers the number of the first cause, or 0. Those that have a
-// `requires` are for `card_writer` and for the checks after them, which show it.
+// The checks before a card is written (document 02, wish 2), in the wish's order: `refusal` answers the number of the first cause, or 0.
 ghost use mathlib.Core.Path.{_≡_};
 ghost use mathlib.Core.Bool.{false, _||_};
 ghost use Prim.Native.Nat.{_+_, _≤_, _<_};

@@ -28,7 +28,7 @@ fn bodies_from(s: usize) -> usize
 
 // How many bytes a card has that holds s polynomials with m coefficients in all, and n points.
 pub fn card_length(s: usize, m: usize, n: usize) -> usize
-    requires { ⌜ (s ≤ mostPolynomials) × (m ≤ 7 * mostPolynomials) × (n ≤ mostPoints) ⌝ }
+    requires { ⌜ (s ≤ mostPolynomials) × (m ≤ (mostDegree + 1) * mostPolynomials) × (n ≤ mostPoints) ⌝ }
     ensures { λ r. ⌜ r ≡ bodiesFrom s + (s + 4 * m) + n ⌝ }
 {
     bodies_from(s) + (s + 4 * m) + n
