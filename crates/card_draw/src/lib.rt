@@ -19,6 +19,15 @@ use refusals::WRONG_DEGREE;
 // How many coefficients the polynomials of a card have at most.
 const MOST_NUMBERS: usize = MOST_POLYNOMIALS * (MOST_DEGREE + 1);
 
+// A coefficient is a draw below 19, less 9; a point one below 201, less 100.
+const COEFFICIENT_BELOW: u32 = 19;
+
+const COEFFICIENT_LESS: u32 = 9;
+
+const POINT_BELOW: u32 = 201;
+
+const POINT_LESS: u32 = 100;
+
 // The number that refuses s, n or d, or 0.
 fn check(s: usize, n: usize, d: usize) -> u16
     ensures { λ r. ⌜ r ≡ drawCause s n d ⌝ }
@@ -56,7 +65,7 @@ fn draw_polynomial(state: u32, d: usize, out: &mut [i64], at: usize) -> u32
     requires { ⌜ (d ≤ mostDegree) × (at + (d + 1) ≤ length (now out)) ⌝ }
     ensures { λ r. ⌜ (r ≡ after (d + 1) state) × (now (out .exit) ≡ sets (now (out .entry)) at (drawnPolynomial d state)) ⌝ }
 {
-    let next = draw_numbers(state, 19, 9, out, at, d + 1);
+    let next = draw_numbers(state, COEFFICIENT_BELOW, COEFFICIENT_LESS, out, at, d + 1);
     out[at + d] = nonzero_top(d, out[at + d]);
     next
 }
@@ -82,7 +91,7 @@ fn draw_points(state: u32, out: &mut [i64])
     ensures { λ _. ⌜ now (out .exit) ≡ drawnPoints (length (now (out .entry))) state ⌝ }
 {
     let n = out.len();
-    draw_numbers(state, 201, 100, out, 0, n);
+    draw_numbers(state, POINT_BELOW, POINT_LESS, out, 0, n);
     sequences::sort(out);
 }
 

@@ -8,6 +8,9 @@ pub enum Numeral {
     Wrong,
 }
 
+// The largest number that is taken: 2^32 − 1.
+const LARGEST: u64 = 4294967295;
+
 // The number in decimal that a text is: one digit or more and nothing else, and not above 2^32 − 1.
 pub fn read_numeral(text: &[u8]) -> Numeral
     ensures { λ r. ⌜ r ≡ numeralOf (now (text .entry)) ⌝ }
@@ -26,7 +29,7 @@ pub fn read_numeral(text: &[u8]) -> Numeral
             return Numeral::Wrong;
         }
         n = n * 10 + ((b - b'0') as u64);
-        if 4294967295 < n {
+        if LARGEST < n {
             return Numeral::Wrong;
         }
         i += 1;

@@ -12,11 +12,15 @@ const MULTIPLIER: u32 = 1664525;
 
 const INCREMENT: u32 = 1013904223;
 
+const MODULUS: u64 = 4294967296; // 2^32
+
+const DIVISOR: u32 = 65536; // of a state, before a draw is taken from it
+
 // a × b, modulo 2^32.
 fn wrapping_mul(a: u32, b: u32) -> u32
     ensures { λ r. ⌜ r ≡ (a * b) % 2 ^ 32 ⌝ }
 {
-    ((a as u64) * (b as u64) % 4294967296) as u32
+    ((a as u64) * (b as u64) % MODULUS) as u32
 }
 
 // The next state.
@@ -31,7 +35,7 @@ fn below(state: u32, m: u32) -> u32
     requires { ⌜ 0 < m ⌝ }
     ensures { λ r. ⌜ (r ≡ below m state) × (r < m) ⌝ }
 {
-    state / 65536 % m
+    state / DIVISOR % m
 }
 
 // Draws n numbers below m, less `less`, into out from place `at` on. Returns the state after them.
