@@ -1,6 +1,6 @@
 -- How many bytes the parts of a card have, and the whole.
 use mathlib.Core.Path.{_≡_, refl}
-use mathlib.Core.Bool.{Bool, true, false, _||_}
+use mathlib.Core.Bool.{Bool, false}
 use mathlib.Core.List.{List, [], _∷_, _++_, map, flatMap}
 use Prim.Native.Nat.{ℕ, zero, suc, _+_, _*_, _/_, _%_, _^_, _≤_}
 use native.Mathlib.Omega.{arith}
@@ -9,6 +9,7 @@ use lib.Dec.{ltb}
 use lib.IntN.{ℤ}
 use lib.ListN.{length, take, drop, length-append, length-map, length-drop}
 use lib.Seq.{length-take-le}
+use Rattle.card.proofs.Some.{left-false, right-false}
 use Rattle.card_bytes.specs.Bytes.{bytes, complement, wanted, bodiesFrom, offsets, body, bodies, cardBytes}
 use Rattle.card_bytes.specs.Causes.{some}
 
@@ -70,22 +71,14 @@ length-card ds cs ps e =
 
 -- ---- how many coefficients there are
 
-left-of : (a b : Bool) → (a || b) ≡ false → a ≡ false
-left-of false b e = refl
-left-of true b e = e
-
-right-of : (a b : Bool) → (a || b) ≡ false → b ≡ false
-right-of false b e = e
-right-of true b e = let x : _≡_ {A = ℕ} 0 1 = cc in absurd (omega arith)
-
 -- a test that holds of no element of a list fails at its first one, and at none after it
 pub some-first : {A : Type 0} (f : A → Bool) (x : A) (l : List A) → some f (x ∷ l) ≡ false → f x ≡ false
 unfolding some
-some-first f x l e = left-of (f x) (some f l) e
+some-first f x l e = left-false (f x) (some f l) e
 
 pub some-rest : {A : Type 0} (f : A → Bool) (x : A) (l : List A) → some f (x ∷ l) ≡ false → some f l ≡ false
 unfolding some
-some-rest f x l e = right-of (f x) (some f l) e
+some-rest f x l e = right-false (f x) (some f l) e
 
 pub wanted-most : (ds : List ℕ) → some (ltb 6) ds ≡ false → wanted ds ≤ 7 * length ds
 unfolding wanted

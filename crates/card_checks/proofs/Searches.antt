@@ -1,6 +1,6 @@
 -- A search from the front of a list, where a recursion on the list says what is to be found: what is left of the list decides.
 use mathlib.Core.Path.{_≡_, refl, sym, _∙_}
-use mathlib.Core.Bool.{Bool, true, false, _||_}
+use mathlib.Core.Bool.{Bool, true, false, _||_, or-assoc}
 use mathlib.Core.List.{List, [], _∷_}
 use Prim.Native.Nat.{ℕ, _+_, _<_, _≤_}
 use native.Mathlib.Numerals.{add-one}
@@ -36,10 +36,6 @@ pub some-searches : {A : Type 0} (f : A → Bool) → Searches (some f) (λ x l.
 unfolding some
 some-searches f = record { none = refl; more = λ x l. refl }
 
-or-assoc : (a b c : Bool) → a || (b || c) ≡ (a || b) || c
-or-assoc true b c = refl
-or-assoc false b c = refl
-
 pub points-searches : Searches wrongPoints (λ x l. outside mostPoint x || below x l)
 unfolding wrongPoints
-points-searches = record { none = refl; more = λ x l. or-assoc (outside mostPoint x) (below x l) (wrongPoints l) }
+points-searches = record { none = refl; more = λ x l. sym (or-assoc (outside mostPoint x) (below x l) (wrongPoints l)) }
