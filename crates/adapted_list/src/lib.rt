@@ -11,7 +11,7 @@ use refusals::TOO_SHORT;
 use refusals::WRONG_COUNT;
 use refusals::WRONG_LIST;
 use signs::below;
-use signs::power;
+use signs::bound;
 use signs::rising;
 
 // What a call answers: that the list is written, or document 01's number of the cause why it is not.
@@ -31,7 +31,7 @@ fn are_patterns(s: usize, l: &[u16]) -> bool
     if !rising(l) {
         return false;
     }
-    below(l, power(s))
+    below(l, bound(s))
 }
 
 // Writes to the front of out the adapted list of the patterns, a rising list of patterns of s polynomials: as many products as patterns. Refused: s

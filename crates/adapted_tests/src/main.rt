@@ -79,7 +79,7 @@ fn balance(s: usize, patterns: &[u16], a: Product) -> usize
 fn query_agrees(s: usize, patterns: &[u16], a: u16, stored: u8) -> bool
     requires { ⌜ (s ≤ mostPolynomials) × Below (3 ^ s) (now patterns) × (length (now patterns) ≤ mostPoints) ⌝ }
 {
-    if signs::power(s) <= a {
+    if signs::bound(s) <= a {
         return false;
     }
     balance(s, patterns, Product(a)) == test_input::wide(stored)
@@ -123,7 +123,7 @@ fn compare(file: &[u8], s: usize, q: usize, patterns: &[u16], p: Progress) -> Pr
     requires { ⌜ (s ≤ mostPolynomials) × (length (now patterns) ≤ mostPoints) × (p .at + 3 + 4 * length (now patterns) + 3 * q ≤ length (now file)) × Counted p ⌝ }
     ensures { λ n. ⌜ Further p n (length (now (file .entry))) ⌝ }
 {
-    if !is_rising(patterns, signs::power(s)) {
+    if !is_rising(patterns, signs::bound(s)) {
         return p;
     }
     let products = p.at + 3 + 2 * patterns.len();

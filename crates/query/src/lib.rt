@@ -22,6 +22,7 @@ use refusals::NONE;
 use refusals::WRONG_COUNT;
 use refusals::WRONG_PRODUCT;
 use signs::Product;
+use signs::bound;
 use signs::digit;
 use signs::power;
 
@@ -191,7 +192,7 @@ pub fn ask(card: Opened, a: Product) -> Queried
     if MOST_POINTS < card.n {
         return Queried::Refused(WRONG_COUNT);
     }
-    if power(card.s) <= a.0 {
+    if bound(card.s) <= a.0 {
         return Queried::Refused(WRONG_PRODUCT);
     }
     Queried::Number(sum(card, a.0))
@@ -204,7 +205,7 @@ pub fn query(card: &[u8], a: Product) -> Queried
 {
     match card::read(card) {
         Card::Sound { s, n } => {
-            if power(s) <= a.0 {
+            if bound(s) <= a.0 {
                 return Queried::Refused(WRONG_PRODUCT);
             }
             Queried::Number(sum(open_sound(card, s, n), a.0))

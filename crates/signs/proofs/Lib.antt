@@ -16,3 +16,4 @@ pub mod UniqueWhole
 pub mod Orders
 pub mod SignDigits
 pub mod NumericOrder
+pub mod TakenDigits

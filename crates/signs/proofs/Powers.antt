@@ -1,4 +1,4 @@
--- The powers of 3: the table, and the largest.
+-- The powers of 3: the table of the eight weights, and the largest.
 use mathlib.Core.Path.{_≡_, refl}
 use mathlib.Core.List.{[], _∷_}
 use Prim.Native.Nat.{ℕ, zero, suc, _*_, _^_, _<_, _≤_}
@@ -7,7 +7,7 @@ use native.Mathlib.Omega.{arith}
 use lib.ListN.{getD}
 use Rattle.refusals.specs.Limits.{mostPolynomials}
 
-pub powers : (i : ℕ) → i ≤ mostPolynomials → getD (1 ∷ 3 ∷ 9 ∷ 27 ∷ 81 ∷ 243 ∷ 729 ∷ 2187 ∷ 6561 ∷ []) i 0 ≡ 3 ^ i
+pub powers : (j : ℕ) → j < mostPolynomials → getD (1 ∷ 3 ∷ 9 ∷ 27 ∷ 81 ∷ 243 ∷ 729 ∷ 2187 ∷ []) j 0 ≡ 3 ^ j
 powers zero h = refl
 powers (suc zero) h = refl
 powers (suc (suc zero)) h = refl
@@ -16,8 +16,7 @@ powers (suc (suc (suc (suc zero)))) h = refl
 powers (suc (suc (suc (suc (suc zero))))) h = refl
 powers (suc (suc (suc (suc (suc (suc zero)))))) h = refl
 powers (suc (suc (suc (suc (suc (suc (suc zero))))))) h = refl
-powers (suc (suc (suc (suc (suc (suc (suc (suc zero)))))))) h = refl
-powers (suc (suc (suc (suc (suc (suc (suc (suc (suc i))))))))) h = absurd (omega arith)
+powers (suc (suc (suc (suc (suc (suc (suc (suc j)))))))) h = absurd (omega arith)
 
 pub power-most : (i : ℕ) → i ≤ mostPolynomials → 3 ^ i ≤ 3 ^ mostPolynomials
 power-most i h = pow-le-pow-right (omega arith) h

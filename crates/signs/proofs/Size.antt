@@ -20,7 +20,7 @@ use Rattle.signs.proofs.Lists.{times-upTo-out, restrictions-holds, shif
 
 -- ---- sums over the numbers below n
 
-total-ext : (f g : ℕ → ℕ) (n : ℕ) → ((q : ℕ) → q < n → f q ≡ g q) → total f n ≡ total g n
+pub total-ext : (f g : ℕ → ℕ) (n : ℕ) → ((q : ℕ) → q < n → f q ≡ g q) → total f n ≡ total g n
 unfolding total
 total-ext f g zero e = refl
 total-ext f g (suc n) e = omega (arith, total-ext f g n (λ q h. e q (omega arith)), e n (omega arith))

@@ -4,3 +4,4 @@ pub mod Adapted
 pub mod Bits
 pub mod Tally
 pub mod Order
+pub mod Digits

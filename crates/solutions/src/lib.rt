@@ -6,7 +6,7 @@ ghost use Rattle.refusals.specs.Limits.{mostPolynomials};
 ghost use Rattle.solutions.specs.Posing.{isList};
 use refusals::MOST_POINTS;
 use signs::below;
-use signs::power;
+use signs::bound;
 use signs::rising;
 
 // Whether these are a rising list of at most 64 patterns of s polynomials, and as many numbers.
@@ -23,5 +23,5 @@ pub fn posed(s: usize, l: &[u16], x: &[i64]) -> bool
     if !rising(l) {
         return false;
     }
-    below(l, power(s))
+    below(l, bound(s))
 }

@@ -21,8 +21,8 @@ returns-2 c =
     let r = c .before .rising in
     sym (patterns-rest (a .s) (a .l .now) false (c .before .before .if1 .left) (sym (r .ensures) ∙ not-true (r .result) (c .if2 .taken)))
 
-power-requires : tie.Need-power-requires
-power-requires c κs = search needs
+bound-requires : tie.Need-bound-requires
+bound-requires c κs = search needs
 
 below-requires : tie.Need-below-requires
 below-requires c κs = search needs
@@ -31,10 +31,10 @@ returns-3 : tie.Need-returns-3
 returns-3 c =
     let a = c .before .before .before .before .before .before .args in
     let r = c .before .before .before .rising in
-    c .below .ensures ∙ ap (λ (n : ℕ). isBelow n (a .l .now)) (c .before .power .ensures)
+    c .below .ensures ∙ ap (λ (n : ℕ). isBelow n (a .l .now)) (c .before .bound .ensures)
     ∙ sym (patterns-rest (a .s) (a .l .now) true (c .before .before .before .before .if1 .left)
     (sym (r .ensures) ∙ not-false (r .result) (c .before .before .if2 .left)))
 
 pub are-patterns-spec : {M : Type 1} → statement M
 are-patterns-spec =
-    tie.close (tie.spec returns rising-requires returns-2 power-requires below-requires returns-3)
+    tie.close (tie.spec returns rising-requires returns-2 bound-requires below-requires returns-3)

@@ -9,7 +9,7 @@ use Rattle.adapted_tests.proofs.compare.Tie as tie
 known : (c : tie.Else1)
     → let a = c .before .before .before .before .before .args in
     Rising (a .patterns .now) × Below (3 ^ a .s) (a .patterns .now)
-known c = rw (c .before .before .power .ensures) at (c .before .is-rising .ensures (not-false _ (c .if1 .left)))
+known c = rw (c .before .before .bound .ensures) at (c .before .is-rising .ensures (not-false _ (c .if1 .left)))
 
 list-agrees-requires : tie.Need-list-agrees-requires
 list-agrees-requires c κs =

@@ -36,8 +36,8 @@ returns-5 c =
     let o = b .before .before .before .before .args .card in
     answer-limits o _ (b .before .before .if1 .left) (crowded (o .s) (o .n) (b .if3 .left) (c .before .before .if4 .left) (c .if5 .taken))
 
-power-requires : tie.Need-power-requires
-power-requires c κs = search needs
+bound-requires : tie.Need-bound-requires
+bound-requires c κs = search needs
 
 -- after the tests of the card
 within : (c : tie.Else5) →
@@ -65,4 +65,4 @@ returns-7 c =
 pub ask-spec : {M : Type 1} → statement M
 ask-spec =
     tie.close
-    (tie.spec is-card-number-requires returns returns-2 returns-3 returns-4 returns-5 power-requires returns-6 sum-requires returns-7)
+    (tie.spec is-card-number-requires returns returns-2 returns-3 returns-4 returns-5 bound-requires returns-6 sum-requires returns-7)

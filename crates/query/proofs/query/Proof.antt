@@ -26,8 +26,8 @@ read-requires c κs = search needs
 enum-known-s : tie.Need-enum-known-s
 enum-known-s c = search needs
 
-power-requires : tie.Need-power-requires
-power-requires c κs = let t = read-as c in omega (arith, t .card .s-most, t .s-is)
+bound-requires : tie.Need-bound-requires
+bound-requires c κs = let t = read-as c in omega (arith, t .card .s-most, t .s-is)
 
 returns : tie.Need-returns
 returns c =
@@ -68,4 +68,4 @@ returns-3 c = query-read _ _ _ (sym (c .before .before .before .read .ensures) �
 pub query-spec : {M : Type 1} → statement M
 query-spec =
     tie.close
-    (tie.spec read-requires enum-known-s power-requires returns open-sound-requires sum-requires enum-known-m returns-2 returns-3)
+    (tie.spec read-requires enum-known-s bound-requires returns open-sound-requires sum-requires enum-known-m returns-2 returns-3)

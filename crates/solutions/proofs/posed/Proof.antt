@@ -12,7 +12,7 @@ use Rattle.solutions.proofs.posed.Statement.{statement}
 use Rattle.solutions.proofs.posed.Tie as tie
 use Rattle.solutions.proofs.posed.Reads as reads
 use Rattle.solutions.proofs.posed.Lts as lts
-use Rattle.signs.proofs.power.Reads as power-reads
+use Rattle.signs.proofs.bound.Reads as bound-reads
 use Rattle.signs.proofs.below.Reads as below-reads
 use Rattle.signs.proofs.rising.Reads as rising-reads
 use Rattle.signs.specs.Lists.{isBelow}
@@ -33,8 +33,8 @@ returns-3 c =
     sym (list-rest (a .s) (a .l .now) (a .x .now) false (c .before .before .before .if1 .left) (c .before .before .if2 .left)
     (sym (r .ensures) ∙ not-true (r .result) (c .if3 .taken)))
 
-power-requires : tie.Need-power-requires
-power-requires c κs = search needs
+bound-requires : tie.Need-bound-requires
+bound-requires c κs = search needs
 
 below-requires : tie.Need-below-requires
 below-requires c κs = search needs
@@ -43,11 +43,11 @@ returns-4 : tie.Need-returns-4
 returns-4 c =
     let a = c .before .before .before .before .before .before .before .args in
     let r = c .before .before .before .rising in
-    c .below .ensures ∙ ap (λ (n : ℕ). isBelow n (a .l .now)) (c .before .power .ensures)
+    c .below .ensures ∙ ap (λ (n : ℕ). isBelow n (a .l .now)) (c .before .bound .ensures)
     ∙ sym (list-rest (a .s) (a .l .now) (a .x .now) true (c .before .before .before .before .before .if1 .left)
     (c .before .before .before .before .if2 .left) (sym (r .ensures) ∙ not-false (r .result) (c .before .before .if3 .left)))
 
 pub posed-spec : {M : Type 1} → statement M
 posed-spec =
     tie.close
-    (tie.spec returns returns-2 rising-requires returns-3 power-requires below-requires returns-4)
+    (tie.spec returns returns-2 rising-requires returns-3 bound-requires below-requires returns-4)
