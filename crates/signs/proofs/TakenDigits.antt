@@ -1,6 +1,6 @@
--- THEOREM of the code: the digits that `digit` gives, called from the top on what is left, are those of division and remainder, and weighed by what
--- `power` gives they add up to the number; `digit_sets` gives the same digits; what `bound` gives is made of these powers. Each call is known
--- by its contract alone (`Learnt`), so that a weaker promise of any of them breaks a theorem.
+-- THEOREM of the code: the digits that `digit` gives, called from the top on what is left, are those of division and remainder, and
+-- weighed by what `power` gives they add up to the number; `digit_sets` gives the same digits; what `bound` gives is made of these powers.
+-- Each call is known by its contract alone (`Learnt`), so that a weaker promise of any of them breaks a theorem.
 use mathlib.Core.Path.{_≡_, refl, sym, ap, ap₂, _∙_}
 use Prim.Native.Nat.{ℕ, zero, suc, _+_, _*_, _-_, _/_, _%_, _^_, _≤_, _<_}
 use native.Mathlib.Omega.{arith}

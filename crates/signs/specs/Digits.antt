@@ -1,10 +1,10 @@
--- The digits of a number as the code takes them: from the top, each by the digit function from what is left, and the digit times its weight taken off
--- (document 02, "No division in the digit step").
+-- The digits of a number as the code takes them: from the top, each by the digit function from what is left, and the digit times its
+-- weight taken off (document 02, "No division in the digit step").
 --
---   Taken W D s n            == the s digits of n, so taken: `weight j` is a weight that may come out for position j (`W`), `digit j` a digit that may
---                               come out for what is left and that weight (`D`), and `left j` what is left when it is taken off
---   RightDigits s n w d      == the digits d are those that division by 3^j and remainder by 3 give, and weighed by w they add up to n
---   RightSets s n ones twos  == bit j of `ones` is set where that digit j is 1, of `twos` where it is 2, for the s digits
+--   Taken W D s n           == the s digits of n, so taken: `weight j` is a weight that may come out for position j (`W`), `digit j` a
+--                              digit that may come out for what is left and that weight (`D`), `left j` what is left when it is taken off
+--   RightDigits s n w d     == the digits d are those that division by 3^j and remainder by 3 give, and weighed by w they add up to n
+--   RightSets s n ones twos == bit j of `ones` is set where that digit j is 1, of `twos` where it is 2, for the s digits
 use mathlib.Core.Path.{_≡_}
 use Prim.Native.Nat.{ℕ, suc, _*_, _-_, _/_, _%_, _^_, _<_}
 use Rattle.signs.specs.Lists.{total}
