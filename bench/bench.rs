@@ -83,7 +83,7 @@ fn queries(s: usize, list: &[u16]) -> Vec<i64> {
     let mut products = vec![0; list.len()];
     plain::adapted(list, s, 0, &mut products);
     let card = opened(s, list);
-    products.iter().map(|&a| plain::ask(&card, a).unwrap()).collect()
+    products.iter().map(|&a| plain::ask(&card, a).unwrap().number).collect()
 }
 
 fn main() {
@@ -132,7 +132,7 @@ fn main() {
             Box::new(move || {
                 let (mut run, mut step) = tarski::Run::start(s);
                 while let tarski::Step::Ask(product) = step {
-                    step = run.answer(opened.ask(product).unwrap());
+                    step = run.answer(opened.ask(product).unwrap().number);
                 }
                 assert!(run.row(oracle.len() - 1).is_ok() && run.row(oracle.len()).is_err());
             })
@@ -142,7 +142,7 @@ fn main() {
             Box::new(move || {
                 let mut run = plain::Run::start(s);
                 let mut product = 0;
-                while let plain::Step::Ask(next) = run.answer(plain::ask(&opened, product).unwrap()) {
+                while let plain::Step::Ask(next) = run.answer(plain::ask(&opened, product).unwrap().number) {
                     product = next;
                 }
                 assert_eq!(run.rows, oracle.len());
@@ -152,7 +152,7 @@ fn main() {
             let opened = tarski::open(black_box(HEAVIEST)).unwrap();
             let (mut run, mut step) = tarski::Run::start(opened.polynomials());
             while let tarski::Step::Ask(product) = step {
-                step = run.answer(opened.ask(product).unwrap());
+                step = run.answer(opened.ask(product).unwrap().number);
             }
             assert_eq!(run.asked(), 463);
         }),
@@ -160,7 +160,7 @@ fn main() {
             let opened = plain::open(black_box(HEAVIEST)).ok().unwrap();
             let mut run = plain::Run::start(opened.s);
             let mut product = 0;
-            while let plain::Step::Ask(next) = run.answer(plain::ask(&opened, product).unwrap()) {
+            while let plain::Step::Ask(next) = run.answer(plain::ask(&opened, product).unwrap().number) {
                 product = next;
             }
             assert_eq!(run.asked, 463);

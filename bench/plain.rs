@@ -132,7 +132,14 @@ fn sign(a: (u32, u32), p: (u32, u32)) -> i64 {
     1 - 2 * ((a.0 & p.1).count_ones() as i64 & 1)
 }
 
-pub fn ask(card: &Opened, product: u16) -> Result<i64, u16> {
+pub struct Counts {
+    pub number: i64,
+    pub positive: u16,
+    pub negative: u16,
+    pub zero: u16,
+}
+
+pub fn ask(card: &Opened, product: u16) -> Result<Counts, u16> {
     if product >= POWERS[card.s] {
         return Err(13);
     }
@@ -147,7 +154,9 @@ pub fn ask(card: &Opened, product: u16) -> Result<i64, u16> {
             odd ^= card.negative[j];
         }
     }
-    Ok(left.count_ones() as i64 - 2 * (left & odd).count_ones() as i64)
+    let (some, negative) = (left.count_ones() as u16, (left & odd).count_ones() as u16);
+    let positive = some - negative;
+    Ok(Counts { number: positive as i64 - negative as i64, positive, negative, zero: card.n as u16 - some })
 }
 
 // ---- adapted lists
@@ -500,7 +509,7 @@ pub fn printout(card: &[u8], mut line: impl FnMut(&str)) {
     let mut run = Run::start(opened.s);
     let mut product = 0;
     loop {
-        let answer = ask(&opened, product).unwrap();
+        let answer = ask(&opened, product).unwrap().number;
         line(&format!("Q {product} {answer}\n"));
         match run.answer(answer) {
             Step::Ask(next) => product = next,

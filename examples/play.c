@@ -23,7 +23,7 @@ int main(void) {
     struct tarski_run run;
     struct tarski_step step = tarski_start(&run, opened.polynomials);
     while (step.kind == TARSKI_ASK) {
-        struct tarski_number answer = tarski_ask(&opened, step.value.product);
+        struct tarski_counts answer = tarski_ask(&opened, step.value.product);
         if (answer.refusal)
             return refused(answer.refusal);
         printf("Q %u %" PRId64 "\n", (unsigned)step.value.product.number, answer.number);

@@ -11,8 +11,8 @@ fn play(card: &[u8]) -> Result<(), Refusal> {
     let (mut run, mut step) = Run::start(opened.polynomials());
     while let Step::Ask(product) = step {
         let answer = opened.ask(product)?;
-        println!("Q {} {answer}", product.0);
-        step = run.answer(answer);
+        println!("Q {} {}", product.0, answer.number);
+        step = run.answer(answer.number);
     }
     if let Step::Refused(refusal) = step {
         return Err(refusal);

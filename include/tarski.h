@@ -22,11 +22,12 @@
 extern "C" {
 #endif
 
-/* The version of this header and of the library beside it. */
+/* The version of this header and of the library beside it. Since 0.4.0 tarski_query and tarski_ask give struct tarski_counts, in which `number` is what
+ * they gave before as struct tarski_number. */
 #define TARSKI_VERSION_MAJOR 0
-#define TARSKI_VERSION_MINOR 3
+#define TARSKI_VERSION_MINOR 4
 #define TARSKI_VERSION_PATCH 0
-#define TARSKI_VERSION "0.3.0"
+#define TARSKI_VERSION "0.4.0"
 
 /* The most polynomials and the most points of a card, and the most rows of a run. */
 #define TARSKI_MOST_POLYNOMIALS 8
@@ -109,9 +110,19 @@ struct tarski_card {
     uint16_t refusal;
 };
 
-/* The Tarski query of a product, or the value of a polynomial; 0 where it is refused. */
+/* The value of a polynomial; 0 where it is refused. */
 struct tarski_number {
     int64_t number;
+    uint16_t refusal;
+};
+
+/* The Tarski query of a product: at how many points it is positive, at how many negative and at how many zero, which add up to the points; and the number
+ * that the panel shows, positive less negative. 0 for each where it is refused. */
+struct tarski_counts {
+    int64_t number;
+    uint16_t positive;
+    uint16_t negative;
+    uint16_t zero;
     uint16_t refusal;
 };
 
@@ -129,11 +140,11 @@ struct tarski_card tarski_check(const uint8_t *card, size_t length);
 /* The value at x of the polynomial at a position from 0: the card's number, then 14. */
 struct tarski_number tarski_value(const uint8_t *card, size_t length, size_t position, int8_t x);
 /* The query of a product on a card, in one call: the card's number, then 13. */
-struct tarski_number tarski_query(const uint8_t *card, size_t length, struct tarski_product product);
+struct tarski_counts tarski_query(const uint8_t *card, size_t length, struct tarski_product product);
 /* Opens a card, to ask many products of it: its number stands in `refusal`. */
 struct tarski_opened tarski_open(const uint8_t *card, size_t length);
 /* The query of a product on an opened card: the card's number, then 13. */
-struct tarski_number tarski_ask(const struct tarski_opened *card, struct tarski_product product);
+struct tarski_counts tarski_ask(const struct tarski_opened *card, struct tarski_product product);
 
 /* ---- cards written and drawn */
 
@@ -228,6 +239,8 @@ TARSKI_LAID_OUT(sizeof(size_t) == 8);
 TARSKI_LAID_OUT(sizeof(struct tarski_pattern) == 2 && sizeof(struct tarski_product) == 2);
 TARSKI_LAID_OUT(sizeof(struct tarski_card) == 24 && offsetof(struct tarski_card, points) == 8 && offsetof(struct tarski_card, refusal) == 16);
 TARSKI_LAID_OUT(sizeof(struct tarski_number) == 16 && offsetof(struct tarski_number, refusal) == 8);
+TARSKI_LAID_OUT(sizeof(struct tarski_counts) == 16 && offsetof(struct tarski_counts, positive) == 8 && offsetof(struct tarski_counts, negative) == 10);
+TARSKI_LAID_OUT(offsetof(struct tarski_counts, zero) == 12 && offsetof(struct tarski_counts, refusal) == 14);
 TARSKI_LAID_OUT(sizeof(struct tarski_opened) == 152 && offsetof(struct tarski_opened, polynomials) == 8);
 TARSKI_LAID_OUT(offsetof(struct tarski_opened, points) == 16 && offsetof(struct tarski_opened, positive) == 24);
 TARSKI_LAID_OUT(offsetof(struct tarski_opened, negative) == 88);

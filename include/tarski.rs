@@ -4,8 +4,8 @@
 use std::fmt;
 use std::mem::{offset_of, size_of};
 
-/// The version of this module and of the library beside it.
-pub const VERSION: (u32, u32, u32) = (0, 3, 0);
+/// The version of this module and of the library beside it. Since 0.4.0 a query gives its `Counts`, in which `number` is what it gave before.
+pub const VERSION: (u32, u32, u32) = (0, 4, 0);
 /// The most polynomials and the most points of a card, and the most rows of a run.
 pub const MOST_POLYNOMIALS: usize = 8;
 pub const MOST_POINTS: usize = 64;
@@ -86,6 +86,16 @@ impl fmt::Display for Refusal {
 
 impl std::error::Error for Refusal {}
 
+/// The Tarski query of a product: at how many points it is positive, at how many negative and at how many zero, which add up to the points; and the number
+/// that the panel shows, positive less negative.
+#[derive(Clone, Copy, Debug, Default, PartialEq, Eq, Hash)]
+pub struct Counts {
+    pub number: i64,
+    pub positive: u16,
+    pub negative: u16,
+    pub zero: u16,
+}
+
 /// An opened card: the signs of its polynomials at its points.
 #[repr(C)]
 #[derive(Clone)]
@@ -139,6 +149,15 @@ mod c {
     }
 
     #[repr(C)]
+    pub struct Counts {
+        pub number: i64,
+        pub positive: u16,
+        pub negative: u16,
+        pub zero: u16,
+        pub refusal: u16,
+    }
+
+    #[repr(C)]
     pub struct Step {
         pub kind: u16,
         pub value: u16,
@@ -166,9 +185,9 @@ mod c {
     extern "C" {
         pub fn tarski_check(card: *const u8, length: usize) -> Card;
         pub fn tarski_value(card: *const u8, length: usize, position: usize, x: i8) -> Number;
-        pub fn tarski_query(card: *const u8, length: usize, product: Product) -> Number;
+        pub fn tarski_query(card: *const u8, length: usize, product: Product) -> Counts;
         pub fn tarski_open(card: *const u8, length: usize) -> Opened;
-        pub fn tarski_ask(card: *const Opened, product: Product) -> Number;
+        pub fn tarski_ask(card: *const Opened, product: Product) -> Counts;
         pub fn tarski_write(
             degrees: *const usize,
             degree_count: usize,
@@ -195,6 +214,8 @@ const _: () = {
     assert!(size_of::<usize>() == 8 && size_of::<Pattern>() == 2 && size_of::<Product>() == 2);
     assert!(size_of::<c::Card>() == 24 && offset_of!(c::Card, points) == 8 && offset_of!(c::Card, refusal) == 16);
     assert!(size_of::<c::Number>() == 16 && offset_of!(c::Number, refusal) == 8);
+    assert!(size_of::<c::Counts>() == 16 && offset_of!(c::Counts, positive) == 8 && offset_of!(c::Counts, negative) == 10);
+    assert!(offset_of!(c::Counts, zero) == 12 && offset_of!(c::Counts, refusal) == 14);
     assert!(size_of::<Opened>() == 152 && offset_of!(Opened, polynomials) == 8 && offset_of!(Opened, points) == 16);
     assert!(offset_of!(Opened, positive) == 24 && offset_of!(Opened, negative) == 88);
     assert!(size_of::<Run>() == 568 && offset_of!(Run, asked) == 8 && offset_of!(Run, phase) == 16 && offset_of!(Run, round) == 24);
@@ -208,6 +229,10 @@ const _: () = {
 
 fn unless<T>(refusal: u16, value: T) -> Result<T, Refusal> {
     if refusal == 0 { Ok(value) } else { Err(Refusal(refusal)) }
+}
+
+fn counts(told: c::Counts) -> Result<Counts, Refusal> {
+    unless(told.refusal, Counts { number: told.number, positive: told.positive, negative: told.negative, zero: told.zero })
 }
 
 fn step(step: c::Step) -> Step {
@@ -231,9 +256,8 @@ pub fn value(card: &[u8], position: usize, x: i8) -> Result<i64, Refusal> {
 }
 
 /// The Tarski query of a product on a card.
-pub fn query(card: &[u8], product: Product) -> Result<i64, Refusal> {
-    let answer = unsafe { c::tarski_query(card.as_ptr(), card.len(), product) };
-    unless(answer.refusal, answer.number)
+pub fn query(card: &[u8], product: Product) -> Result<Counts, Refusal> {
+    counts(unsafe { c::tarski_query(card.as_ptr(), card.len(), product) })
 }
 
 /// A card opened once, to ask many products.
@@ -256,9 +280,8 @@ impl Opened {
         Opened { refusal: 0, polynomials, points, positive, negative }
     }
 
-    pub fn ask(&self, product: Product) -> Result<i64, Refusal> {
-        let answer = unsafe { c::tarski_ask(self, product) };
-        unless(answer.refusal, answer.number)
+    pub fn ask(&self, product: Product) -> Result<Counts, Refusal> {
+        counts(unsafe { c::tarski_ask(self, product) })
     }
 }
 

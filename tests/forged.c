@@ -51,17 +51,18 @@ static unsigned opened_refusal(const struct tarski_opened *card, unsigned produc
     return product >= power(card->polynomials) ? 13 : 0;
 }
 
-static long long opened_query(const struct tarski_opened *card, unsigned product) {
-    long long sum = 0;
+/* At how many of a card's points the product has this sign. */
+static unsigned opened_count(const struct tarski_opened *card, unsigned product, int wanted) {
+    unsigned count = 0;
     for (size_t k = 0; k < card->points; k++) {
         int sign = 1;
         unsigned rest = product;
         for (size_t j = 0; j < card->polynomials; j++, rest /= 3)
             for (unsigned e = rest % 3; e; e--)
                 sign *= sign_at(card, j, k);
-        sum += sign;
+        count += sign == wanted;
     }
-    return sum;
+    return count;
 }
 
 static unsigned forged_card(void) {
@@ -77,9 +78,14 @@ static unsigned forged_card(void) {
     unsigned product = (unsigned)draw(card.polynomials <= 8 ? power(card.polynomials) + 2 : 65536);
     unsigned refusal = opened_refusal(&card, product);
     struct tarski_product asked = {(uint16_t)product};
-    struct tarski_number got = tarski_ask(&card, asked);
+    struct tarski_counts got = tarski_ask(&card, asked);
+    unsigned positive = refusal ? 0 : opened_count(&card, product, 1), negative = refusal ? 0 : opened_count(&card, product, -1);
     same("refusal of an opened card", refusal, got.refusal);
-    same("query of an opened card", refusal ? 0 : opened_query(&card, product), got.number);
+    same("points of an opened card where a product is positive", positive, got.positive);
+    same("points of an opened card where a product is negative", negative, got.negative);
+    same("points of an opened card where a product is zero", refusal ? 0 : opened_count(&card, product, 0), got.zero);
+    same("query of an opened card", (long long)positive - (long long)negative, got.number);
+    same("counts of an opened card together", refusal ? 0 : (long long)card.points, got.positive + got.negative + got.zero);
     return refusal;
 }
 

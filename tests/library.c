@@ -22,9 +22,9 @@ static size_t length;
 /* The types of the calls, said again: a declaration with parameters in another order does not compile here. */
 static struct tarski_card (*check)(const uint8_t *, size_t) = tarski_check;
 static struct tarski_number (*volatile value_of)(const uint8_t *, size_t, size_t, int8_t) = tarski_value;
-static struct tarski_number (*volatile query_of)(const uint8_t *, size_t, struct tarski_product) = tarski_query;
+static struct tarski_counts (*volatile query_of)(const uint8_t *, size_t, struct tarski_product) = tarski_query;
 static struct tarski_opened (*open_card)(const uint8_t *, size_t) = tarski_open;
-static struct tarski_number (*volatile ask_of)(const struct tarski_opened *, struct tarski_product) = tarski_ask;
+static struct tarski_counts (*volatile ask_of)(const struct tarski_opened *, struct tarski_product) = tarski_ask;
 static uint16_t (*adapted)(size_t, const struct tarski_pattern *, size_t, struct tarski_product *, size_t) = tarski_adapted;
 static uint16_t (*solve)(size_t, const struct tarski_pattern *, size_t, const int64_t *, size_t, int64_t *, size_t) = tarski_solve;
 static struct tarski_written (*write_card)(const size_t *, size_t, const int64_t *, size_t, const int64_t *, size_t, uint8_t *, size_t) = tarski_write;
@@ -78,10 +78,10 @@ static void cards(void) {
     SEE(tarski_value(card, length - 1, 3, 1).refusal == TARSKI_WRONG_LENGTH);
 }
 
-/* The query of a product by the card's values. */
-static int64_t by_values(unsigned a) {
+/* At how many of the card's points a product has this sign, by the card's values. */
+static unsigned by_values(unsigned a, int wanted) {
     static const int8_t points[3] = {-3, 1, 3};
-    int64_t sum = 0;
+    unsigned count = 0;
     for (int k = 0; k < 3; k++) {
         int sign = 1;
         unsigned rest = a;
@@ -90,9 +90,21 @@ static int64_t by_values(unsigned a) {
             for (unsigned power = rest % 3; power; power--)
                 sign *= v > 0 ? 1 : v < 0 ? -1 : 0;
         }
-        sum += sign;
+        count += sign == wanted;
     }
-    return sum;
+    return count;
+}
+
+/* An answer with the counts of a product, and the number that they give. */
+static int told(struct tarski_counts got, unsigned a) {
+    unsigned positive = by_values(a, 1), negative = by_values(a, -1), zero = by_values(a, 0);
+    return got.refusal == 0 && got.positive == positive && got.negative == negative && got.zero == zero && got.number == (int64_t)positive - (int64_t)negative
+        && got.positive + got.negative + got.zero == 3;
+}
+
+/* An answer of nothing but the refusal. */
+static int refused(struct tarski_counts got, unsigned refusal) {
+    return got.refusal == refusal && got.number == 0 && got.positive == 0 && got.negative == 0 && got.zero == 0;
 }
 
 static void queries(void) {
@@ -100,13 +112,12 @@ static void queries(void) {
     SEE(opened.refusal == 0 && opened.polynomials == 3 && opened.points == 3);
     SEE(opened.positive[0] == 6 && opened.negative[0] == 1 && opened.positive[2] == 4 && opened.negative[2] == 3);
     for (unsigned a = 0; a < 27; a++) {
-        struct tarski_number once = tarski_query(card, length, product(a)), asked = tarski_ask(&opened, product(a));
-        SEE(once.refusal == 0 && once.number == by_values(a));
-        SEE(asked.refusal == 0 && asked.number == by_values(a));
+        SEE(told(tarski_query(card, length, product(a)), a));
+        SEE(told(tarski_ask(&opened, product(a)), a));
     }
-    SEE(tarski_query(card, length, product(27)).refusal == TARSKI_WRONG_PRODUCT && tarski_query(card, length, product(27)).number == 0);
-    SEE(tarski_ask(&opened, product(27)).refusal == TARSKI_WRONG_PRODUCT && tarski_ask(&opened, product(65535)).refusal == TARSKI_WRONG_PRODUCT);
-    SEE(tarski_query(card, length - 1, product(0)).refusal == TARSKI_WRONG_LENGTH);
+    SEE(refused(tarski_query(card, length, product(27)), TARSKI_WRONG_PRODUCT));
+    SEE(refused(tarski_ask(&opened, product(27)), TARSKI_WRONG_PRODUCT) && refused(tarski_ask(&opened, product(65535)), TARSKI_WRONG_PRODUCT));
+    SEE(refused(tarski_query(card, length - 1, product(0)), TARSKI_WRONG_LENGTH));
     opened = tarski_open(with(3, 1), length);
     SEE(opened.refusal == TARSKI_WRONG_BYTE && tarski_ask(&opened, product(0)).refusal == TARSKI_WRONG_BYTE);
     opened = tarski_open(with(12, 7), length);
@@ -115,9 +126,29 @@ static void queries(void) {
     SEE(opened.refusal == TARSKI_ZERO_TOP && tarski_ask(&opened, product(27)).refusal == TARSKI_ZERO_TOP);
 }
 
+/* Why a panel shows 0: X at -1, 0 and 1 is positive and negative once each; X at 0, and 0 at four points, are zero. */
+static void reasons(void) {
+    static const size_t degree[2] = {1, 0};
+    static const int64_t x[2] = {0, 1}, zero[1] = {0}, around[3] = {-1, 0, 1}, four[4] = {-100, 0, 0, 100};
+    uint8_t made[TARSKI_LONGEST_CARD];
+    struct tarski_written written = tarski_write(degree, 1, x, 2, around, 3, made, sizeof made);
+    struct tarski_counts got = tarski_query(made, written.length, product(1));
+    SEE(got.refusal == 0 && got.number == 0 && got.positive == 1 && got.negative == 1 && got.zero == 1);
+    got = tarski_query(made, written.length, product(2));
+    SEE(got.refusal == 0 && got.number == 2 && got.positive == 2 && got.negative == 0 && got.zero == 1);
+    written = tarski_write(degree, 1, x, 2, around + 1, 1, made, sizeof made);
+    got = tarski_query(made, written.length, product(2));
+    SEE(got.refusal == 0 && got.number == 0 && got.positive == 0 && got.negative == 0 && got.zero == 1);
+    written = tarski_write(degree + 1, 1, zero, 1, four, 4, made, sizeof made);
+    got = tarski_query(made, written.length, product(1));
+    SEE(got.refusal == 0 && got.number == 0 && got.positive == 0 && got.negative == 0 && got.zero == 4);
+    got = tarski_query(made, written.length, product(0));
+    SEE(got.refusal == 0 && got.number == 4 && got.positive == 4 && got.negative == 0 && got.zero == 0);
+}
+
 /* A one-field struct is passed like its field, and what a register holds above its 16 bits has no effect: the same calls with such bits. */
-typedef struct tarski_number (*query_wide)(const uint8_t *, size_t, uint32_t);
-typedef struct tarski_number (*ask_wide)(const struct tarski_opened *, uint32_t);
+typedef struct tarski_counts (*query_wide)(const uint8_t *, size_t, uint32_t);
+typedef struct tarski_counts (*ask_wide)(const struct tarski_opened *, uint32_t);
 typedef struct tarski_number (*value_wide)(const uint8_t *, size_t, size_t, uint32_t);
 
 static void registers(void) {
@@ -313,11 +344,12 @@ int main(int count, char **words) {
     length = fread(card, 1, sizeof card, file);
     fclose(file);
     SEE(length == 42);
-    SEE(strcmp(TARSKI_VERSION, "0.3.0") == 0 && TARSKI_VERSION_MAJOR == 0 && TARSKI_VERSION_MINOR == 3 && TARSKI_VERSION_PATCH == 0);
+    SEE(strcmp(TARSKI_VERSION, "0.4.0") == 0 && TARSKI_VERSION_MAJOR == 0 && TARSKI_VERSION_MINOR == 4 && TARSKI_VERSION_PATCH == 0);
     if (!wrong) {
         types();
         cards();
         queries();
+        reasons();
         registers();
         solver();
         written();

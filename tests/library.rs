@@ -3,7 +3,7 @@
 #[path = "../include/tarski.rs"]
 mod tarski;
 
-use tarski::{Opened, Pattern, Product, Refusal, Run, Step};
+use tarski::{Counts, Opened, Pattern, Product, Refusal, Run, Step};
 
 fn with(card: &[u8], place: usize, byte: u8) -> Vec<u8> {
     let mut changed = card.to_vec();
@@ -27,7 +27,7 @@ fn cards(card: &[u8]) {
     assert_eq!(tarski::value(card, 1, 5), Ok(6));
     assert_eq!(tarski::value(card, 2, -100), Ok(-102));
     assert_eq!(tarski::value(card, 3, 1), Err(Refusal::PAST_LAST));
-    assert_eq!(tarski::query(card, Product(9)), Ok(-1));
+    assert_eq!(tarski::query(card, Product(9)), Ok(Counts { number: -1, positive: 1, negative: 2, zero: 0 }));
     assert_eq!(tarski::query(card, Product(27)), Err(Refusal::WRONG_PRODUCT));
     let opened = tarski::open(card).unwrap();
     assert_eq!((opened.polynomials(), opened.points()), (3, 3));
@@ -37,7 +37,11 @@ fn cards(card: &[u8]) {
     assert_eq!(opened.ask(Product(27)), Err(Refusal::WRONG_PRODUCT));
     assert_eq!(tarski::open(&with(card, 3, 1)).err(), Some(Refusal::WRONG_BYTE));
     let signs = Opened::of_signs(1, 2, [3, 0, 0, 0, 0, 0, 0, 0], [0; 8]);
-    assert_eq!((signs.ask(Product(0)), signs.ask(Product(1))), (Ok(2), Ok(2)));
+    assert_eq!(signs.ask(Product(0)), Ok(Counts { number: 2, positive: 2, negative: 0, zero: 0 }));
+    assert_eq!(signs.ask(Product(1)), signs.ask(Product(0)));
+    let signs = Opened::of_signs(1, 4, [1, 0, 0, 0, 0, 0, 0, 0], [2, 0, 0, 0, 0, 0, 0, 0]);
+    assert_eq!(signs.ask(Product(1)), Ok(Counts { number: 0, positive: 1, negative: 1, zero: 2 }));
+    assert_eq!(signs.ask(Product(2)), Ok(Counts { number: 2, positive: 2, negative: 0, zero: 2 }));
 }
 
 fn solver(card: &[u8]) {
@@ -50,7 +54,7 @@ fn solver(card: &[u8]) {
     assert_eq!(products, [Product(4711); 4]);
     assert_eq!(tarski::adapted(3, &list, &mut products), Ok(()));
     assert_eq!(products, [Product(0), Product(1), Product(9), Product(4711)]);
-    let numbers: Vec<i64> = products[..3].iter().map(|&a| opened.ask(a).unwrap()).collect();
+    let numbers: Vec<i64> = products[..3].iter().map(|&a| opened.ask(a).unwrap().number).collect();
     let mut found = [4711; 4];
     assert_eq!(tarski::solve(3, &list, &numbers, &mut found), Ok(()));
     assert_eq!(found, [1, 1, 1, 4711]);
@@ -94,7 +98,7 @@ fn runs(card: &[u8]) {
     assert_eq!((step, run.asked()), (Step::Ask(Product(0)), 0));
     assert_eq!(run.row(0), Err(Refusal::LATE));
     while let Step::Ask(product) = step {
-        step = run.answer(opened.ask(product).unwrap());
+        step = run.answer(opened.ask(product).unwrap().number);
     }
     assert_eq!((step, run.asked()), (Step::Done, 11));
     assert_eq!(run.row(1), Ok((Pattern(22), 1)));
@@ -124,7 +128,7 @@ fn main() {
     }
     let card = std::fs::read(word).unwrap();
     assert_eq!(card.len(), 42);
-    assert_eq!(tarski::VERSION, (0, 3, 0));
+    assert_eq!(tarski::VERSION, (0, 4, 0));
     assert_eq!(Refusal(3).to_string(), "refused by 3: s is not 1 to 8, or n is above 64");
     let limits = [tarski::MOST_POLYNOMIALS, tarski::MOST_POINTS, tarski::MOST_ROWS, tarski::MOST_QUESTIONS, tarski::LONGEST_CARD, tarski::MOST_STACK];
     assert_eq!(limits, [8, 64, 64, 593, 318, 32768]);

@@ -7,8 +7,9 @@ usage: python3 tools/compare_cards.py [SEED|day [SOUND [BASES]]]    compares; pr
 SOUND cards are drawn, of every s and every n in turn. BASES more are drawn and damaged: cut at every length, every byte changed by some values,
 every cause of the refusal table at every place that it can have, and two such causes at once, at random and within one polynomial. Each card is
 asked about some products. The second reader goes another way: it takes the bytes off one after the other, works out values by powers and not by
-Horner's rule, and a query by the exact product of the values to their powers and not by signs. SEED (day: that of the day), SOUND and BASES decide
-every card. It fails where a number that refuses a card did not occur.
+Horner's rule, and a query, its three counts and the panel number, by the exact product of the values to their powers and not by signs. SEED (day: that
+of the day), SOUND and BASES decide every card. It fails where a number that refuses a card did not occur, and where no query showed 0 for one of the
+two reasons that there are.
 """
 
 import datetime
@@ -90,13 +91,12 @@ def value(c, x):
 
 
 def query(values, product):
-    """The sum over the points of the sign of the product of value^power; the values are those of all polynomials at each point. Python too has 0**0 == 1."""
-    total = 0
+    """At how many points the product of value^power is positive, negative and 0, and the sum over the points of its sign; the values are those of all
+    polynomials at each point. Python too has 0**0 == 1."""
     powers = [product // 3 ** j % 3 for j in range(8)]
-    for at_point in values:
-        v = math.prod(v ** e for v, e in zip(at_point, powers))
-        total += (v > 0) - (v < 0)
-    return total
+    products = [math.prod(v ** e for v, e in zip(at_point, powers)) for at_point in values]
+    counts = [len([v for v in products if v > 0]), len([v for v in products if v < 0]), products.count(0)]
+    return counts + [sum((v > 0) - (v < 0) for v in products)]
 
 
 def position(card, number, place, c):
@@ -122,7 +122,7 @@ def answers(card, products):
     lines.append(position(card, 14, 0, []))
     values = [[value(c, x) for _, c in polynomials] for x in points]
     for a in products:
-        shown = str(query(values, a)) if a < 3 ** len(polynomials) else 'R 13'
+        shown = '%d %d %d %d' % tuple(query(values, a)) if a < 3 ** len(polynomials) else 'R 13'
         lines.append('Q %d %s %s' % (a, shown, shown))
     return lines
 
@@ -283,8 +283,8 @@ def difference(batch, expected, written):
 
 
 def compare(cards):
-    """Runs the program on the cards, and gives what it found by number, or stops at the first difference."""
-    seen = {}
+    """Runs the program on the cards, and gives what it found by number and why queries showed 0, or stops at the first difference."""
+    seen, nothing = {}, {'only zeros': 0, 'as many + as -': 0}
     with tempfile.TemporaryDirectory() as folder:
         path = os.path.join(folder, 'cards')
         for batch in files(cards):
@@ -298,7 +298,10 @@ def compare(cards):
             for lines in expected:
                 key = 'sound' if lines[0][0] == 'S' else lines[0][2:]
                 seen[key] = seen.get(key, 0) + 1
-    return seen
+                for _, _, positive, negative, zero, *_ in (line.split() for line in lines if line[0] == 'Q' and 'R' not in line):
+                    nothing['only zeros'] += positive == negative == '0' and zero != '0'
+                    nothing['as many + as -'] += positive == negative != '0'
+    return seen, nothing
 
 
 def draw(seed, sounds, bases):
@@ -315,15 +318,18 @@ def draw(seed, sounds, bases):
 
 
 def show(seed, sounds, bases):
-    """Compares and prints the counts: of the damaged cards some are sound, as one with another coefficient. Fails where a number never occurred."""
+    """Compares and prints the counts: of the damaged cards some are sound, as one with another coefficient. Fails where a number, or a way to show 0,
+    never occurred."""
     whole, broken = draw(seed, sounds, bases)
-    seen = compare(whole + broken)
-    missing = {'sound', '1', '2', '3', '4', '5', '6', '16', '17'} - set(seen)
+    seen, nothing = compare(whole + broken)
+    missing = {'sound', '1', '2', '3', '4', '5', '6', '16', '17'} - set(seen) | {why for why in nothing if not nothing[why]}
     if missing or not whole or not broken:
         sys.exit('compare_cards: did not occur: ' + ', '.join(sorted(missing) or ['a card']))
     asked = sum(len(products) for _, products in whole + broken)
     found = ', '.join('%s: %d' % (key, seen[key]) for key in sorted(seen, key=lambda key: (len(key), key)))
-    print('compare_cards: seed %d: %d sound and %d damaged cards, %d queries, no difference (by number %s)' % (seed, len(whole), len(broken), asked, found))
+    why = ' and '.join('%d for %s' % (nothing[why], why) for why in nothing)
+    print('compare_cards: seed %d: %d sound and %d damaged cards, %d queries, 0 shown by %s, no difference (by number %s)'
+          % (seed, len(whole), len(broken), asked, why, found))
 
 
 # ---- the committed file

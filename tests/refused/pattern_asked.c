@@ -3,9 +3,9 @@
  * refused: tarski_pattern */
 #include "tarski.h"
 
-struct tarski_number asked(const struct tarski_opened *card, struct tarski_row row, struct tarski_step step);
+struct tarski_counts asked(const struct tarski_opened *card, struct tarski_row row, struct tarski_step step);
 
-struct tarski_number asked(const struct tarski_opened *card, struct tarski_row row, struct tarski_step step) {
+struct tarski_counts asked(const struct tarski_opened *card, struct tarski_row row, struct tarski_step step) {
 #ifdef RIGHT
     (void)row;
     return tarski_ask(card, step.value.product);

@@ -6,7 +6,7 @@
 #[path = "../../include/tarski.rs"]
 mod tarski;
 
-pub fn asked(card: &tarski::Opened, product: tarski::Product, pattern: tarski::Pattern) -> Result<i64, tarski::Refusal> {
+pub fn asked(card: &tarski::Opened, product: tarski::Product, pattern: tarski::Pattern) -> Result<tarski::Counts, tarski::Refusal> {
     let _ = (product, pattern);
     #[cfg(right)]
     return card.ask(product);

@@ -10,6 +10,7 @@ use card::Evaluated;
 use card::Stretch;
 use libc::STDOUT_FILENO;
 use query::Queried;
+use sign_counts::SignCounts;
 use signs::Product;
 use test_input::pair;
 use test_input::wide;
@@ -106,10 +107,18 @@ fn print_card(card: &[u8]) {
     }
 }
 
-// The answer of a query: its number, or R and the number that refuses it.
+// The three counts of a query, and the panel number.
+fn print_counts(counts: SignCounts) {
+    print_number(counts.positive as u64);
+    print_number(counts.negative as u64);
+    print_number(counts.zero as u64);
+    print_signed(sign_counts::panel_number(counts));
+}
+
+// The answer of a query, or R and the number that refuses it.
 fn print_answer(answer: Queried) {
     match answer {
-        Queried::Number(sum) => print_signed(sum),
+        Queried::Counts(counts) => print_counts(counts),
         Queried::Refused(number) => {
             put(b' ');
             put(b'R');

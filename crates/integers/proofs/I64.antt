@@ -4,12 +4,13 @@
 use mathlib.Core.Path.{_≡_, sym, ap, _∙_}
 use Prim.Native.Nat.{ℕ, suc, _^_, _/_, _<_}
 use native.Mathlib.Nat.{div-le-self}
-use lib.IntN.{ℤ, pos, negsuc, negℤ, natAbs}
+use native.Mathlib.Omega.{arith}
+use lib.IntN.{ℤ, pos, negsuc, negℤ, natAbs, _-ℤ_}
 use lib.Signed.{quotZ, remZ, mag-rem}
 use mir.Syntax.{w64}
 use mir.Val.{SFits, toZ, ofZ}
-use mir.Facts.{toZ-ofZ}
-use Rattle.integers.proofs.Parts.{parts, mag-is, neg, int}
+use mir.Facts.{toZ-pos, toZ-ofZ}
+use Rattle.integers.proofs.Parts.{parts, mag-is, neg, dif, int}
 
 -- a small absolute value
 pub fits-abs : (z : ℤ) → natAbs z < 2 ^ 63 → SFits w64 z
@@ -26,6 +27,20 @@ same-bits a b f g e = sym (toZ-ofZ f) ∙ ap (toZ w64) e ∙ toZ-ofZ g
 -- and differ where their bits do
 pub other-bits : (a b : ℤ) → (ofZ w64 a ≡ ofZ w64 b → ⊥) → a ≡ b → ⊥
 other-bits a b h e = h (ap (ofZ w64) e)
+
+-- the difference of two numbers of at most 32 bits, as the code takes it
+module _ (a b : ℕ) (h : a < 2 ^ 32) (k : b < 2 ^ 32) where
+  apart : toZ w64 a -ℤ toZ w64 b ≡ pos a -ℤ pos b
+  apart =
+      let e : toZ w64 a ≡ pos a = toZ-pos w64 (omega arith) in
+      let f : toZ w64 b ≡ pos b = toZ-pos w64 (omega arith) in
+      rw (e, f)
+
+  pub less-fits : SFits w64 (toZ w64 a -ℤ toZ w64 b)
+  less-fits = rw apart (omega (int, dif (pos a) (pos b), parts (pos a -ℤ pos b)))
+
+  pub less-is : toZ w64 (ofZ w64 (toZ w64 a -ℤ toZ w64 b)) ≡ pos a -ℤ pos b
+  less-is = toZ-ofZ less-fits ∙ apart
 
 -- the quotient by a natural number, and every remainder
 pub quot-fits : {z : ℤ} (k : ℕ) → SFits w64 z → SFits w64 (quotZ z (pos k))

@@ -12,6 +12,7 @@ use lib.Seq.{getD-append-seam}
 use Rattle.signs.specs.Lists.{times}
 use Rattle.signs.proofs.Lists.{times-nil, times-same, times-other, times-append, times-take}
 use Rattle.contents.proofs.Patterns.{query-patterns}
+use Rattle.contents.proofs.Counts.{counts-panel}
 use Rattle.layout.specs.Format.{polynomials}
 use Rattle.layout.specs.Contents.{contentsOf}
 use Rattle.layout.proofs.Contents.{points-long}
@@ -23,7 +24,7 @@ use Rattle.card.proofs.Sound.{sound, unrefused}
 use Rattle.query.specs.declared.Opened.{Opened}
 use Rattle.query.specs.declared.Queried.the-variants as of-query
 use Rattle.query.specs.Opened.{opened, openedAnswer}
-use Rattle.query.specs.Query.{queryOf, patternsOf}
+use Rattle.query.specs.Query.{queryOf, countsOf, patternsOf}
 use Rattle.query.proofs.Opening.{answer-opened, opened-sound}
 use Rattle.query.proofs.Answers.{query-sound, query-refused}
 use Rattle.rounds.specs.Rows.{Row, patterns, Oracle, realized, IsRealized, Fits}
@@ -165,7 +166,7 @@ module _ (c : List ℕ) (S : Sound c) where
     few-q : length (questions s E) ≤ mostQuestions
     few-r : length (realized s E) ≤ mostPoints
 
-  card-answers : (α : ℕ) → α < 3 ^ s → openedAnswer (opened c) α ≡ of-query.Number (queryOf c α)
+  card-answers : (α : ℕ) → α < 3 ^ s → openedAnswer (opened c) α ≡ of-query.Counts (countsOf c α)
   card-answers α b = answer-opened c α ∙ query-sound c α S b
 
   -- k more answers, from a record that has asked α last
@@ -191,7 +192,10 @@ module _ (c : List ℕ) (S : Sound c) where
       fit = fits-append s E qs (α ∷ []) zs (z ∷ []) l f (unfold Fits in (query-patterns (contentsOf c) α, tt))
 
       first : nextOf (at (opened c) r (question α)) ≡ onStep (opened c) α z (answerOf roundRows r z)
-      first = unfold nextOf nextAt onAnswer in ap (onAnswer (opened c) r α) (card-answers α (asked-below s r zs qs α I e))
+      first =
+          unfold nextOf nextAt onAnswer in
+          ap (onAnswer (opened c) r α) (card-answers α (asked-below s r zs qs α I e))
+          ∙ ap (λ (x : ℤ). onStep (opened c) α x (answerOf roundRows r x)) (counts-panel (contentsOf c) α)
 
       lengths : length ps ≡ length (zs ++ (z ∷ []))
       lengths = omega (arith, l, length-append qs (α ∷ []), length-append zs (z ∷ []))

@@ -9,6 +9,8 @@ use borrow.Author.Tests.{eq-eqb}
 use Rattle.refusals.specs.Numbers.{pastLast}
 use Rattle.signs.specs.declared.Product.{Product}
 use Rattle.query.specs.declared.Opened.{Opened}
+use Rattle.sign_counts.specs.Counts.{panelNumber}
+use Rattle.sign_counts.specs.declared.SignCounts.{SignCounts}
 use Rattle.query.specs.declared.Queried.{Queried}
 use Rattle.query.specs.declared.Queried.the-variants as of-query
 use Rattle.query.specs.Opened.{opened, openedAnswer}
@@ -93,10 +95,11 @@ module _ (o : Printed) (card : Opened) (run run′ : Run) (α : ℕ) (z : ℤ) (
       (shown o card run′ stages.Over (refusalLine k) m))
 
 module _ (o : Printed) (card : Opened) (run : Run) (α : ℕ) (x y : Queried) (same : x ≡ y) where
-  pub numbered : (z : ℤ) → x ≡ of-query.Number z → Shows o (onStep card α z (answerOf roundRows (stateOf run) z))
+  pub numbered : (t : SignCounts) → x ≡ of-query.Counts t
+      → Shows o (onStep card α (panelNumber t) (answerOf roundRows (stateOf run) (panelNumber t)))
       → Shows o (onAnswer card (stateOf run) α y)
   unfolding onAnswer
-  numbered z e s = subst (λ (v : Queried). Shows o (onAnswer card (stateOf run) α v)) (sym e ∙ same) s
+  numbered t e s = subst (λ (v : Queried). Shows o (onAnswer card (stateOf run) α v)) (sym e ∙ same) s
 
   pub not-shown : (k : ℕ) → x ≡ of-query.Refused k → Made o card run stages.Over (refusalLine k) → Shows o (onAnswer card (stateOf run) α y)
   unfolding onAnswer

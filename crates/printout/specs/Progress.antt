@@ -5,8 +5,8 @@
 --   progressOf p  == what the `Progress` p stands for: its record as the rules of a run read it
 --   begunOf c     == the card c opened, and the run on it before its first question, product 0
 --   afterRow p    == the stage after the row at position p; no run has more than 64 rows
---   nextOf t      == what t leaves, and its next line: Q with the answer of the card, S, E past the last row, nothing after the end;
---                    R where the card or the run refuses, and then nothing more
+--   nextOf t      == what t leaves, and its next line: Q with the panel number of the card's answer, S, E past the last row, nothing after
+--                    the end; R where the card or the run refuses, and then nothing more
 --   Shows o t     == the code's line o and what it leaves are the line and the rest t, and it has room
 --   Prints t ls   == the lines from t on, one after the other, are ls, and then it is over
 use mathlib.Core.Path.{_≡_}
@@ -17,6 +17,7 @@ use lib.Dec.{eqb, ltb}
 use lib.IntN.{ℤ}
 use Rattle.refusals.specs.Numbers.{pastLast}
 use Rattle.refusals.specs.Limits.{mostPoints}
+use Rattle.sign_counts.specs.Counts.{panelNumber}
 use Rattle.query.specs.Opened.{opened, openedAnswer}
 use Rattle.query.specs.declared.Opened.{Opened}
 use Rattle.query.specs.declared.Queried.{Queried}
@@ -63,7 +64,7 @@ onStep o α z (r, done) = gives o r (rowAt 0) (questionLine α z)
 onStep o α z (r, refused k) = gives o r over (refusalLine k)
 
 unfoldable pub onAnswer : Opened → State → ℕ → Queried → ProgressState × List ℕ
-onAnswer o r α (of-query.Number z) = onStep o α z (answerOf roundRows r z)
+onAnswer o r α (of-query.Counts t) = onStep o α (panelNumber t) (answerOf roundRows r (panelNumber t))
 onAnswer o r α (of-query.Refused k) = gives o r over (refusalLine k)
 
 unfoldable pub afterRow : ℕ → Stage

@@ -101,12 +101,12 @@ fn take_answer(card: Opened, run: Run, a: Product, z: i64) -> Printed
     }
 }
 
-// The line of the product a: its query, or the number that refuses the card or the product.
+// The line of the product a: the panel number of its three counts, or the number that refuses the card or the product.
 fn next_question(card: Opened, run: Run, a: Product) -> Printed
     ensures { λ r. ⌜ Shows r (onAnswer card (stateOf run) (a .0) (answerOn card (a .0))) ⌝ }
 {
     match query::ask(card, a) {
-        Queried::Number(z) => take_answer(card, run, a, z),
+        Queried::Counts(t) => take_answer(card, run, a, sign_counts::panel_number(t)),
         Queried::Refused(k) => with_line(card, run, Stage::Over, lines::refusal_line(k)),
     }
 }

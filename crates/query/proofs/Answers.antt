@@ -8,15 +8,12 @@ use Prim.Native.Nat.{ℕ, zero, suc, _^_, _<_, _≤_}
 use native.Mathlib.Omega.{arith}
 use borrow.Author.Tests.{le-leb, lt-leb}
 use lib.Dec.{leb}
-use lib.IntN.{ℤ}
 use lib.ListN.{take}
 use Rattle.refusals.specs.Numbers.{wrongCount, wrongProduct, cardNumbers, isAmong, Among, _when_, _▸_, unless}
 use Rattle.refusals.specs.Limits.{longestCard}
 use Rattle.integers.proofs.Tests.{eq-cases}
-use Rattle.signs.specs.Signs.{query}
-use Rattle.contents.proofs.Patterns.{query-patterns}
+use Rattle.sign_counts.specs.declared.SignCounts.{SignCounts}
 use Rattle.layout.specs.Format.{polynomials, pointCount}
-use Rattle.layout.specs.Contents.{contentsOf}
 use Rattle.layout.proofs.Twos.{below-or}
 use Rattle.card.specs.Card.{refusal}
 use Rattle.card.specs.Answers.{reading}
@@ -26,18 +23,15 @@ use Rattle.card.proofs.Sound.{sound, unrefused}
 use Rattle.card.proofs.Longest.{cut-refusal, cut-sound}
 use Rattle.query.specs.declared.Opened.{Opened}
 use Rattle.query.specs.declared.Queried.the-variants as of-query
-use Rattle.query.specs.Query.{queryOf, patternsOf, queryAnswer}
+use Rattle.query.specs.Query.{countsOf, queryAnswer}
 use Rattle.query.specs.Opened.{opened, unlimited, ownNumber, refusedBy, openedAnswer}
 use Rattle.query.proofs.Opening.{answer-opened}
 
 module _ (c : List ℕ) (α : ℕ) where
-  -- on a sound card a product below 3^s shows its query, from the values of the product, which is that of the points' patterns
-  pub query-sound : Sound c → α < 3 ^ polynomials c → queryAnswer c α ≡ of-query.Number (queryOf c α)
+  -- on a sound card a product below 3^s has its three counts, from the values of the product
+  pub query-sound : Sound c → α < 3 ^ polynomials c → queryAnswer c α ≡ of-query.Counts (countsOf c α)
   unfolding queryAnswer
   query-sound h b = rw (unrefused c h, lt-leb (3 ^ polynomials c) α b) refl
-
-  pub query-sound-patterns : Sound c → α < 3 ^ polynomials c → queryAnswer c α ≡ of-query.Number (query (polynomials c) (patternsOf c) α)
-  query-sound-patterns h b = query-sound h b ∙ ap of-query.Number (query-patterns (contentsOf c) α)
 
   pub query-past : Sound c → 3 ^ polynomials c ≤ α → queryAnswer c α ≡ of-query.Refused wrongProduct
   unfolding queryAnswer
@@ -58,13 +52,13 @@ module _ (c : List ℕ) (α : ℕ) where
   query-read m = go (refusal c)
     where
       go : (k : ℕ) → unless k card.Refused (card.Sound (polynomials c) (pointCount c)) ≡ card.Refused m
-          → of-query.Refused m ≡ unless (k ▸ wrongProduct when leb (3 ^ polynomials c) α) of-query.Refused (of-query.Number (queryOf c α))
+          → of-query.Refused m ≡ unless (k ▸ wrongProduct when leb (3 ^ polynomials c) α) of-query.Refused (of-query.Counts (countsOf c α))
       go zero e = let z : _≡_ {A = ℕ} 0 1 = cc in absurd (omega arith)
       go (suc k) e = let z : m ≡ suc k = cc in ap of-query.Refused z
 
   -- and where a query is shown the card is sound and the product below 3^s
-  pub query-shown : (z : ℤ) → queryAnswer c α ≡ of-query.Number z → Sound c × (α < 3 ^ polynomials c)
-  query-shown z e =
+  pub query-shown : (t : SignCounts) → queryAnswer c α ≡ of-query.Counts t → Sound c × (α < 3 ^ polynomials c)
+  query-shown t e =
       ⊎-elim (λ w. let S = sound c (w .0) in
       ⊎-elim (λ b. (S, b)) (λ b. absurd (differ wrongProduct (query-past S b))) (below-or α (3 ^ polynomials c)))
       (λ w. absurd (differ (refusal c) (query-refused (w .0)))) (eq-cases (refusal c) 0)
@@ -86,9 +80,9 @@ cut-query c k α h =
 unfoldable pub Listed : ℕ → Type 0
 Listed m = Among cardNumbers m ⊎ (m ≡ wrongProduct)
 
-listed : (k m : ℕ) (z : ℤ) → (k ≡ 0) ⊎ Listed k → unless k of-query.Refused (of-query.Number z) ≡ of-query.Refused m → Listed m
-listed zero m z h e = let n : _≡_ {A = ℕ} 0 1 = cc in absurd (omega arith)
-listed (suc k) m z h e = let n : suc k ≡ m = cc in ⊎-elim (λ x. absurd (omega (arith, x))) (λ x. subst Listed n x) h
+listed : (k m : ℕ) (t : SignCounts) → (k ≡ 0) ⊎ Listed k → unless k of-query.Refused (of-query.Counts t) ≡ of-query.Refused m → Listed m
+listed zero m t h e = let n : _≡_ {A = ℕ} 0 1 = cc in absurd (omega arith)
+listed (suc k) m t h e = let n : suc k ≡ m = cc in ⊎-elim (λ x. absurd (omega (arith, x))) (λ x. subst Listed n x) h
 
 -- an opened card's own number
 own-listed : (m : ℕ) → (ownNumber m ≡ 0) ⊎ Listed (ownNumber m)

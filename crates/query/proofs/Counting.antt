@@ -6,26 +6,35 @@
 --                               of its first j polynomials, is the sign of the product a
 use mathlib.Core.Path.{_≡_, refl, sym, ap, ap₂, subst, _∙_}
 use mathlib.Core.Bool.{Bool, true, false, cond}
+use mathlib.Core.List.{[], _∷_, map, map-append}
 use Prim.Native.Nat.{ℕ, zero, suc, _+_, _*_, _-_, _/_, _%_, _^_, _<_, _≤_, min, max}
 use native.Mathlib.Omega.{arith}
 use native.Mathlib.Nat.{pow-suc, one-le-pow, div-lt-iff-lt-mul, div-add-mod'}
 use lib.Bits.{bitAnd, bitOr, bitXor, differ, and-le-l}
 use lib.Count.{ones}
 use lib.Dec.{eqb}
-use lib.IntN.{ℤ, pos, negsuc, _+ℤ_, _-ℤ_, _*ℤ_, zero-*ℤ, *ℤ-zero}
-use lib.ListN.{getD}
+use lib.IntN.{ℤ, pos, negsuc, _+ℤ_, _*ℤ_, zero-*ℤ, *ℤ-zero, +ℤ-idr}
+use lib.ListN.{getD, length-map}
 use lib.Pow.{ones-lt}
-use Rattle.integers.specs.Sums.{sumTo}
+use Rattle.integers.specs.Sign.{sgnℤ}
+use Rattle.integers.specs.Sums.{sumℤ, sumTo}
 use Rattle.integers.proofs.Diff.{one-*ℤ}
 use Rattle.integers.proofs.Ring.{*ℤ-assoc, *ℤ-left-comm, *ℤ-1}
-use Rattle.integers.proofs.Parts.{int, sum, dif}
-use Rattle.integers.proofs.Sums.{sumTo-ext}
-use Rattle.signs.specs.Lists.{total}
+use Rattle.integers.proofs.Sign.{sgn-*}
+use Rattle.integers.proofs.Sums.{sumℤ-++}
+use Rattle.signs.specs.Lists.{times, upTo, total}
 use Rattle.integers.specs.Powers.{power}
-use Rattle.signs.specs.Signs.{signOf, sign}
+use Rattle.signs.specs.Signs.{signOf, sign, signDigit}
+use Rattle.signs.specs.Bits.{bitOf}
 use Rattle.signs.proofs.Digits.{top, low}
+use Rattle.signs.proofs.Lists.{times-append}
+use Rattle.sign_counts.specs.Counts.{signCounts, panelNumber, inAll}
+use Rattle.sign_counts.specs.declared.SignCounts.{SignCounts}
+use Rattle.sign_counts.proofs.Laws.{all-counted, panel-sum}
+use Rattle.contents.proofs.Patterns.{sgn-power}
+use Rattle.layout.proofs.Contents.{upTo-long}
 use Rattle.query.specs.declared.Opened.{Opened}
-use Rattle.query.specs.Opened.{bitAt, digitBy, columnTo, summed}
+use Rattle.query.specs.Opened.{bitAt, digitBy, columnTo, signOn, countsOn, summed}
 use Rattle.query.proofs.Words.{bit-small, bit-and, bit-or, bit-xor, bit-none, bit-first, ones-bits}
 
 -- ---- one point
@@ -73,15 +82,21 @@ factor d u v zero o hd hu hv hl ho =
 factor d u v (suc zero) o hd hu hv hl ho = factor-left d u v o hd hu hv ho
 factor d u v (suc (suc l)) o hd hu hv hl ho = absurd (omega arith)
 
--- the sign as a difference
-sign-parts : (l o : ℕ) → l < 2 → o < 2 → signAt l o ≡ pos l -ℤ pos (2 * min l o)
-sign-parts zero zero h g = refl
-sign-parts zero (suc zero) h g = refl
-sign-parts (suc zero) zero h g = refl
-sign-parts (suc zero) (suc zero) h g = refl
-sign-parts zero (suc (suc o)) h g = absurd (omega arith)
-sign-parts (suc zero) (suc (suc o)) h g = absurd (omega arith)
-sign-parts (suc (suc l)) o h g = absurd (omega arith)
+-- the count that it adds to: l is the point's bit among those left, m among the odd ones that are left, and z its sign
+record Adds (l m : ℕ) (z : ℤ) : Type 0 where
+  plus : bitOf 1 (signDigit z) + m ≡ l
+  minus : bitOf 2 (signDigit z) ≡ m
+  none : bitOf 0 (signDigit z) + l ≡ 1
+
+adds : (l o : ℕ) → l < 2 → o < 2 → Adds l (min l o) (signAt l o)
+unfolding signDigit
+adds zero zero h g = record { plus = refl; minus = refl; none = refl }
+adds zero (suc zero) h g = record { plus = refl; minus = refl; none = refl }
+adds (suc zero) zero h g = record { plus = refl; minus = refl; none = refl }
+adds (suc zero) (suc zero) h g = record { plus = refl; minus = refl; none = refl }
+adds zero (suc (suc o)) h g = absurd (omega arith)
+adds (suc zero) (suc (suc o)) h g = absurd (omega arith)
+adds (suc (suc l)) o h g = absurd (omega arith)
 
 -- ---- all points at once
 
@@ -178,35 +193,90 @@ module _ (P : Opened) (a : ℕ) where
       let o : rest - rest / 3 ^ i * 3 ^ i ≡ rest % 3 ^ i = omega (arith, div-add-mod' rest (3 ^ i)) in
       rw (el, eo, ed, ew, o) (kept-next rest i left odd (rw (← ej) fits) (subst (λ (x : ℕ). Kept P a rest x left odd) ej m))
 
--- ---- the number of points left, less twice that of the odd ones among them
+-- ---- the three counts by the two words
 
-module _ (l o : ℕ) where
-  tally : (n : ℕ) → pos (total (bitAt l) n) -ℤ pos (2 * total (bitAt (bitAnd l o)) n) ≡ sumTo (λ k. signAt (bitAt l k) (bitAt o k)) n
-  unfolding total sumTo
-  tally zero = refl
-  tally (suc n) =
-      let x = bitAt l n in
-      let m = min (bitAt l n) (bitAt o n) in
-      rw (bit-and l o n, sign-parts (bitAt l n) (bitAt o n) (bit-small l n) (bit-small o n), ← tally n)
-      (step (total (bitAt l) n) (total (bitAt (bitAnd l o)) n) x m)
-    where
-      step : (L M x m : ℕ) → pos (L + x) -ℤ pos (2 * (M + m)) ≡ (pos L -ℤ pos (2 * M)) +ℤ (pos x -ℤ pos (2 * m))
-      step L M x m =
-          omega (
-            int,
-            dif (pos (L + x)) (pos (2 * (M + m))),
-            sum (pos L -ℤ pos (2 * M)) (pos x -ℤ pos (2 * m)),
-            dif (pos L) (pos (2 * M)),
-            dif (pos x) (pos (2 * m)),
-          )
+-- one point more
+times-next : (f : ℕ → ℤ) (d n : ℕ)
+    → times d (map signDigit (map f (upTo (suc n)))) ≡ times d (map signDigit (map f (upTo n))) + bitOf d (signDigit (f n))
+unfolding upTo times
+times-next f d n =
+    rw (map-append f (upTo n) (n ∷ []), map-append signDigit (map f (upTo n)) (f n ∷ []))
+    (omega (arith, times-append d (map signDigit (map f (upTo n))) (signDigit (f n) ∷ [])))
 
-  pub counted : (n : ℕ) → l < 2 ^ n → pos (ones l) -ℤ pos (2 * ones (bitAnd l o)) ≡ sumTo (λ k. signAt (bitAt l k) (bitAt o k)) n
-  counted n h = rw (ones-bits n l h, ones-bits n (bitAnd l o) (omega (arith, and-le-l l o))) (tally n)
+module _ (f : ℕ → ℤ) (l o : ℕ) where
+  record Tallied (n : ℕ) : Type 0 where
+    plus : times 1 (map signDigit (map f (upTo n))) + total (bitAt (bitAnd l o)) n ≡ total (bitAt l) n
+    minus : times 2 (map signDigit (map f (upTo n))) ≡ total (bitAt (bitAnd l o)) n
+    none : times 0 (map signDigit (map f (upTo n))) + total (bitAt l) n ≡ n
 
--- the law: the words give the sum
-pub summed-words : (P : Opened) (a rest j left odd : ℕ) → Kept P a rest j left odd → j ≡ 0
-    → pos (ones left) -ℤ pos (2 * ones (bitAnd left odd)) ≡ summed P a
-unfolding summed sign
-summed-words P a rest zero left odd m e =
-    counted left odd (P .n) (m .small) ∙ sumTo-ext _ _ (P .n) (λ k g. sym (*ℤ-1 (signAt (bitAt left k) (bitAt odd k))) ∙ m .at k g)
-summed-words P a rest (suc j) left odd m e = absurd (omega arith)
+  tallied : (n : ℕ) → ((k : ℕ) → k < n → signAt (bitAt l k) (bitAt o k) ≡ f k) → Tallied n
+  unfolding upTo total times
+  tallied zero e = record { plus = refl; minus = refl; none = refl }
+  tallied (suc n) e =
+      let t = tallied n (λ k h. e k (omega arith)) in
+      let a : Adds (bitAt l n) (bitAt (bitAnd l o) n) (f n) =
+      rw (← e n (omega arith), bit-and l o n) (adds (bitAt l n) (bitAt o n) (bit-small l n) (bit-small o n)) in
+      record {
+        plus = omega (arith, t .plus, times-next f 1 n, a .plus);
+        minus = omega (arith, t .minus, times-next f 2 n, a .minus);
+        none = omega (arith, t .none, times-next f 0 n, a .none);
+      }
+
+-- no more odd points are left than points
+pub odd-fewer : (l o n : ℕ) → l < 2 ^ n → ones (bitAnd l o) ≤ ones l
+odd-fewer l o n h =
+    let t = tallied (λ k. signAt (bitAt l k) (bitAt o k)) l o n (λ k g. refl) in
+    omega (arith, ones-bits n l h, ones-bits n (bitAnd l o) (omega (arith, and-le-l l o)), t .plus)
+
+-- the law: the words give the counts
+pub counts-words : (P : Opened) (a rest j left odd : ℕ) → Kept P a rest j left odd → j ≡ 0
+    → _≡_ {A = SignCounts}
+    (record { positive = ones left - ones (bitAnd left odd); negative = ones (bitAnd left odd); zero = P .n - ones left })
+    (countsOn P a)
+unfolding countsOn signCounts sign
+counts-words P a rest zero left odd m e =
+    let t = tallied (signOn P a) left odd (P .n) (λ k g. sym (*ℤ-1 (signAt (bitAt left k) (bitAt odd k))) ∙ m .at k g) in
+    let b = ones-bits (P .n) left (m .small) in
+    let c = ones-bits (P .n) (bitAnd left odd) (omega (arith, and-le-l left odd, m .small)) in
+    counts-are (omega (arith, t .plus, b, c)) (omega (arith, t .minus, b, c)) (omega (arith, t .none, b, c))
+  where
+    counts-are : {x y z u v w : ℕ} → x ≡ u → y ≡ v → z ≡ w
+        → _≡_ {A = SignCounts} (record { positive = x; negative = y; zero = z }) (record { positive = u; negative = v; zero = w })
+    counts-are p q r = rw (p, q, r) refl
+counts-words P a rest (suc j) left odd m e = absurd (omega arith)
+
+-- ---- the sum of the signs
+
+sgn-signOf : (d : ℕ) → sgnℤ (signOf d) ≡ signOf d
+unfolding signOf
+sgn-signOf zero = refl
+sgn-signOf (suc zero) = refl
+sgn-signOf (suc (suc d)) = refl
+
+sgn-sign : (s α σ : ℕ) → sgnℤ (sign s α σ) ≡ sign s α σ
+unfolding sign
+sgn-sign zero α σ = refl
+sgn-sign (suc s) α σ =
+    let d = σ / 3 ^ s in
+    let e = α / 3 ^ s in
+    sgn-* (power (signOf d) e) (sign s (α % 3 ^ s) (σ % 3 ^ s))
+    ∙ ap₂ _*ℤ_ (sgn-power (signOf d) e ∙ ap (λ (x : ℤ). power x e) (sgn-signOf d)) (sgn-sign s (α % 3 ^ s) (σ % 3 ^ s))
+
+sum-upTo : (f : ℕ → ℤ) → ((k : ℕ) → sgnℤ (f k) ≡ f k) → (n : ℕ) → sumℤ (map sgnℤ (map f (upTo n))) ≡ sumTo f n
+unfolding upTo sumTo sumℤ
+sum-upTo f e zero = refl
+sum-upTo f e (suc n) =
+    rw (map-append f (upTo n) (n ∷ []), map-append sgnℤ (map f (upTo n)) (f n ∷ []), sumℤ-++ (map sgnℤ (map f (upTo n))) (sgnℤ (f n) ∷ []))
+    (ap₂ _+ℤ_ (sum-upTo f e n) (+ℤ-idr (sgnℤ (f n)) ∙ e n))
+
+-- the law: the first count less the second is the sum of the signs
+pub counts-summed : (P : Opened) (a : ℕ) → panelNumber (countsOn P a) ≡ summed P a
+unfolding countsOn summed
+counts-summed P a =
+    panel-sum (map (signOn P a) (upTo (P .n))) ∙ sum-upTo (signOn P a) (λ k. sgn-sign (P .s) a (columnTo P (P .s) k)) (P .n)
+
+-- and the three add up to the points
+pub counts-points : (P : Opened) (a : ℕ) → inAll (countsOn P a) ≡ P .n
+unfolding countsOn
+counts-points P a =
+    all-counted (map (signOn P a) (upTo (P .n))) ∙ length-map (upTo (P .n)) (signOn P a) ∙ upTo-long (P .n)

@@ -4,28 +4,27 @@
 use mathlib.Core.Path.{_≡_, refl, sym, ap, subst, _∙_}
 use mathlib.Core.Bool.{Bool, true, false, _||_}
 use mathlib.Core.Logic.{⊎-elim}
-use mathlib.Core.List.{List, [], _∷_, map}
+use mathlib.Core.List.{List, [], _∷_, map, map-map}
 use Prim.Native.Nat.{ℕ, zero, suc, _+_, _^_, _<_, _≤_}
 use native.Mathlib.Omega.{arith}
 use native.Mathlib.Numerals.{add-one}
 use borrow.Author.Tests.{lt-ltb, le-ltb, le-leb, lt-leb, ne-eqb}
 use lib.Dec.{ltb}
-use lib.IntN.{ℤ, pos}
 use lib.ListN.{length, getD, set, replicate, length-map, length-set, length-replicate}
 use lib.Seq.{ext-getD, getD-set-same, getD-set-other}
 use Rattle.refusals.specs.Numbers.{wrongCount, wrongProduct, cardNumbers, isAmong, _▸_, unless}
 use Rattle.refusals.specs.Limits.{mostPolynomials, mostPoints}
-use Rattle.integers.specs.Sign.{sgnℤ}
-use Rattle.integers.specs.Sums.{sumTo}
-use Rattle.integers.proofs.Sums.{sumTo-ext, sumTo-list}
 use Rattle.integers.proofs.Tests.{eq-cases}
 use Rattle.signs.specs.Lists.{Below, upTo}
 use Rattle.signs.specs.Signs.{sign, signDigit}
 use Rattle.signs.specs.Bits.{bitOf}
 use Rattle.signs.proofs.Digitwise.{bit-le}
 use Rattle.signs.proofs.SignDigits.{digit-small}
-use Rattle.contents.specs.Contents.{Contents, patternTo, valuesAt, productValue, queryIn}
-use Rattle.contents.proofs.Patterns.{map-below, sgn-product}
+use Rattle.sign_counts.specs.Counts.{signCounts}
+use Rattle.contents.specs.Contents.{Contents, patternTo, valuesAt, patternAt, patternsIn}
+use Rattle.contents.specs.Counts.{countsIn, patternCounts}
+use Rattle.contents.proofs.Patterns.{map-below}
+use Rattle.contents.proofs.Counts.{counts-patterns}
 use Rattle.layout.specs.Format.{polynomials, pointCount}
 use Rattle.layout.specs.Contents.{contentsOf}
 use Rattle.layout.proofs.Contents.{upTo-long, map-upTo-at, points-long}
@@ -41,7 +40,7 @@ use Rattle.query.specs.declared.Queried.{Queried}
 use Rattle.query.specs.declared.Queried.the-variants as of-query
 use Rattle.query.specs.Query.{queryAnswer}
 use Rattle.query.specs.Opened.{bitAt, pointBits, signWord, wordIn, wordsIn, digitBy, columnTo, openedSound, openedRefused, opened}
-use Rattle.query.specs.Opened.{summed, unlimited, ownNumber, refusedBy, openedAnswer}
+use Rattle.query.specs.Opened.{countsOn, unlimited, ownNumber, refusedBy, openedAnswer}
 use Rattle.query.proofs.Words.{word-bit}
 
 -- ---- the lists
@@ -186,10 +185,10 @@ module _ (o : Opened) (α : ℕ) where
   unfolding openedAnswer refusedBy
   answer-product e u h = rw (e, u, le-leb (3 ^ o .s) α h) refl
 
-  pub answer-number : o .refusal ≡ 0 → unlimited o ≡ false → α < 3 ^ o .s
-      → of-query.Number (summed o α) ≡ openedAnswer o α
+  pub answer-counts : o .refusal ≡ 0 → unlimited o ≡ false → α < 3 ^ o .s
+      → of-query.Counts (countsOn o α) ≡ openedAnswer o α
   unfolding openedAnswer refusedBy
-  answer-number e u h = rw (e, u, lt-leb (3 ^ o .s) α h) refl
+  answer-counts e u h = rw (e, u, lt-leb (3 ^ o .s) α h) refl
 
 -- ---- the law: opened once or not, the answer is the same
 
@@ -225,25 +224,25 @@ module _ {X : Type 0} (K : Contents X) (few-s : K .s ≤ mostPolynomials) where
         let v = K .value s (p .x) in
         rw (column-is s (omega arith), bit-there 1 s b, bit-there 2 s b, digit-bits (signDigit v) (digit-small v)) refl
 
-  pub summed-is : (α : ℕ) → summed (openedSound K) α ≡ queryIn K α
-  unfolding summed queryIn
-  summed-is α =
-      sumTo-ext _ (λ k. getD L k (pos 0)) (length (K .points)) at
-      ∙ ap (sumTo (λ k. getD L k (pos 0))) (sym (length-map (K .points) sign-there))
-      ∙ sumTo-list L
+  -- the columns are the points' patterns
+  columns : map (columnTo (openedSound K) (K .s)) (upTo (length (K .points))) ≡ patternsIn K
+  unfolding patternsIn
+  columns =
+      ext-getD 0 (map (columnTo (openedSound K) (K .s)) (upTo n)) (map (patternAt K) (K .points))
+      (length-map (upTo n) (columnTo (openedSound K) (K .s)) ∙ upTo-long n ∙ sym (length-map (K .points) (patternAt K)))
+      (λ k h. let b : k < n = omega (arith, length-map (upTo n) (columnTo (openedSound K) (K .s)), upTo-long n) in
+      let p = place (K .points) k b in
+      map-upTo-at (columnTo (openedSound K) (K .s)) n k 0 b ∙ column-is k p (K .s) (omega arith) ∙ sym (p .there (patternAt K) 0))
     where
-      sign-there : X → ℤ
-      sign-there x = sgnℤ (productValue K α x)
+      n : ℕ
+      n = length (K .points)
 
-      L : List ℤ
-      L = map sign-there (K .points)
-
-      at : (k : ℕ) → k < length (K .points) → sign (K .s) α (columnTo (openedSound K) (K .s) k) ≡ getD L k (pos 0)
-      at k g =
-          let p = place (K .points) k g in
-          ap (sign (K .s) α) (column-is k p (K .s) (omega arith))
-          ∙ sym (sgn-product (valuesAt K (p .x)) (K .s) α)
-          ∙ sym (p .there sign-there (pos 0))
+  pub counts-are : (α : ℕ) → countsOn (openedSound K) α ≡ countsIn K α
+  unfolding countsOn
+  counts-are α =
+      ap signCounts (sym (map-map (sign (K .s) α) (columnTo (openedSound K) (K .s)) (upTo (length (K .points)))))
+      ∙ ap (λ (E : List ℕ). signCounts (map (sign (K .s) α) E)) columns
+      ∙ (unfold patternCounts in sym (counts-patterns K α))
 
 module _ (c : List ℕ) (α : ℕ) where
   answer-sound : Sound c → openedAnswer (openedSound (contentsOf c)) α ≡ queryAnswer c α
@@ -253,7 +252,7 @@ module _ (c : List ℕ) (α : ℕ) where
       let u = limits (polynomials c) (length (K .points)) (h .s-least) (h .s-most) (omega (arith, points-long c, h .n-most)) in
       let e = unrefused c h in
       ⊎-elim (λ b. rw (e, lt-leb (3 ^ polynomials c) α b)
-      (sym (answer-number (openedSound K) α refl u b) ∙ ap of-query.Number (summed-is K (h .s-most) α)))
+      (sym (answer-counts (openedSound K) α refl u b) ∙ ap of-query.Counts (counts-are K (h .s-most) α)))
       (λ b. rw (e, le-leb (3 ^ polynomials c) α b) (sym (answer-product (openedSound K) α refl u b))) (below-or α (3 ^ polynomials c))
 
   -- a refused card's number is a card's

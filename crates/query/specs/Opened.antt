@@ -12,13 +12,15 @@
 --   opened c         == the card c opened
 --   digitBy u v      == the sign digit where the bit of `positive` is u and that of `negative` is v: 2 where v is set, else u
 --   columnTo o s k   == the pattern number of point k: of the first s polynomials, the sign digit that bit k of their words says
---   summed o α       == the sum of the signs of the product α over the points of the opened card o, by their columns
+--   signOn o α k     == the sign of the product α at point k of the opened card o, by its column
+--   countsOn o α     == at how many points of o that sign is +, at how many − and at how many 0
+--   summed o α       == the sum of the signs over the points of o
 --   unlimited o      == s is outside 1 .. 8, or n is above 64
 --   ownNumber m      == by what an opened card with the number m is refused: by m, but by 3 where m is neither 0 nor a card's
 --   refusedBy o α    == the number that refuses the opened card o or the product α, or 0: its own, then 3 where s or n is outside its
 --                       limits, then 13 for the product. No card opens to a number of none or outside the limits: an opened card may hold
 --                       anything
---   openedAnswer o α == what the opened card o answers to the product α: the number that refuses, else the sum
+--   openedAnswer o α == what the opened card o answers to the product α: the number that refuses, else the three counts
 use mathlib.Core.Bool.{Bool, cond, _||_}
 use mathlib.Core.List.{List, [], _∷_, map}
 use Prim.Native.Nat.{ℕ, zero, suc, _+_, _*_, _/_, _%_, _^_}
@@ -31,6 +33,8 @@ use Rattle.integers.specs.Sums.{sumTo}
 use Rattle.signs.specs.Lists.{upTo}
 use Rattle.signs.specs.Signs.{sign, signDigit}
 use Rattle.signs.specs.Bits.{bitOf}
+use Rattle.sign_counts.specs.Counts.{signCounts}
+use Rattle.sign_counts.specs.declared.SignCounts.{SignCounts}
 use Rattle.contents.specs.Contents.{Contents}
 use Rattle.layout.specs.Contents.{contentsOf}
 use Rattle.card.specs.Card.{refusal}
@@ -80,8 +84,14 @@ unfoldable pub columnTo : opened-card.Opened → ℕ → ℕ → ℕ
 columnTo o zero k = 0
 columnTo o (suc s) k = columnTo o s k + digitBy (bitAt (getD (o .positive) s 0) k) (bitAt (getD (o .negative) s 0) k) * 3 ^ s
 
+abbrev pub signOn : opened-card.Opened → ℕ → ℕ → ℤ
+signOn o α k = sign (o .s) α (columnTo o (o .s) k)
+
+unfoldable pub countsOn : opened-card.Opened → ℕ → SignCounts
+countsOn o α = signCounts (map (signOn o α) (upTo (o .n)))
+
 unfoldable pub summed : opened-card.Opened → ℕ → ℤ
-summed o α = sumTo (λ k. sign (o .s) α (columnTo o (o .s) k)) (o .n)
+summed o α = sumTo (signOn o α) (o .n)
 
 abbrev pub unlimited : opened-card.Opened → Bool
 unlimited o = ltb (o .s) 1 || (ltb mostPolynomials (o .s) || ltb mostPoints (o .n))
@@ -96,4 +106,4 @@ refusedBy o α =
     ▸ wrongProduct when leb (3 ^ o .s) α
 
 unfoldable pub openedAnswer : opened-card.Opened → ℕ → Queried
-openedAnswer o α = unless (refusedBy o α) of-query.Refused (of-query.Number (summed o α))
+openedAnswer o α = unless (refusedBy o α) of-query.Refused (of-query.Counts (countsOn o α))

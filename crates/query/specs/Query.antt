@@ -2,14 +2,17 @@
 --
 --   queryOf c α     == the query of the product α on the card c: the sum over its points of the sign of the product's value, a point
 --                      counted as often as it stands on the card
+--   countsOf c α    == at how many of its points, so counted, that value is positive, at how many negative and at how many 0
 --   patternsOf c    == the patterns of the card's points, in the card's order
---   queryAnswer c α == what is shown: the number that refuses the card, then that of the product, else the query
+--   queryAnswer c α == what is shown: the number that refuses the card, then that of the product, else the three counts
 use mathlib.Core.List.{List}
 use Prim.Native.Nat.{ℕ, _^_}
 use lib.Dec.{leb}
 use lib.IntN.{ℤ}
 use Rattle.refusals.specs.Numbers.{wrongProduct, _when_, _▸_, unless}
+use Rattle.sign_counts.specs.declared.SignCounts.{SignCounts}
 use Rattle.contents.specs.Contents.{queryIn, patternsIn}
+use Rattle.contents.specs.Counts.{countsIn}
 use Rattle.layout.specs.Format.{polynomials}
 use Rattle.layout.specs.Contents.{contentsOf}
 use Rattle.card.specs.Card.{refusal}
@@ -19,8 +22,11 @@ use Rattle.query.specs.declared.Queried.the-variants as of-query
 abbrev pub queryOf : List ℕ → ℕ → ℤ
 queryOf c α = queryIn (contentsOf c) α
 
+abbrev pub countsOf : List ℕ → ℕ → SignCounts
+countsOf c α = countsIn (contentsOf c) α
+
 abbrev pub patternsOf : List ℕ → List ℕ
 patternsOf c = patternsIn (contentsOf c)
 
 unfoldable pub queryAnswer : List ℕ → ℕ → Queried
-queryAnswer c α = unless (refusal c ▸ wrongProduct when leb (3 ^ polynomials c) α) of-query.Refused (of-query.Number (queryOf c α))
+queryAnswer c α = unless (refusal c ▸ wrongProduct when leb (3 ^ polynomials c) α) of-query.Refused (of-query.Counts (countsOf c α))

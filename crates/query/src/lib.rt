@@ -1,19 +1,19 @@
-// Tarski queries on a card (document 01, "Patterns and products"): the sum of a product's signs over the card's points.
+// Tarski queries on a card (document 01, "Patterns and products"; document 02, wish 4): at how many of the card's points a product is positive, negative
+// and 0. The number that the panel shows is the first less the second (`sign_counts::panel_number`).
 //
 // A card is opened once, and then answers any number of products with no polynomial evaluated again. No public call has a condition: any bytes, any
 // product number and any opened card have an answer, and what is lent stays as it was.
 ghost use mathlib.Core.Path.{_≡_};
 ghost use mathlib.Core.Bool.{cond};
-ghost use Prim.Native.Nat.{_*_, _-_, _^_, _≤_, _<_};
+ghost use Prim.Native.Nat.{_-_, _^_, _≤_, _<_};
 ghost use lib.Bits.{bitAnd, bitOr, bitXor};
 ghost use lib.Count.{ones};
 ghost use lib.Dec.{eqb};
-ghost use lib.IntN.{pos, _-ℤ_};
 ghost use Rattle.refusals.specs.Limits.{mostPolynomials, mostPoints};
 ghost use Rattle.layout.specs.Format.{polynomials, pointCount, pointsAt};
 ghost use Rattle.layout.specs.Contents.{contentsOf};
 ghost use Rattle.card.specs.Sound.{Sound};
-ghost use Rattle.query.specs.Opened.{signWord, openedSound, opened, summed, openedAnswer};
+ghost use Rattle.query.specs.Opened.{signWord, openedSound, opened, countsOn, openedAnswer};
 ghost use Rattle.query.specs.Query.{queryAnswer};
 use card::Card;
 use refusals::MOST_POINTS;
@@ -21,6 +21,7 @@ use refusals::MOST_POLYNOMIALS;
 use refusals::NONE;
 use refusals::WRONG_COUNT;
 use refusals::WRONG_PRODUCT;
+use sign_counts::SignCounts;
 use signs::Product;
 use signs::bound;
 use signs::digit;
@@ -29,9 +30,9 @@ use signs::power;
 // Every bit of a word.
 const EVERY: u64 = 0xffff_ffff_ffff_ffff;
 
-// The query of a product, or the number that refuses the card or the product.
+// The three counts of a product, or the number that refuses the card or the product.
 pub enum Queried {
-    Number(i64),
+    Counts(SignCounts),
     Refused(u16),
 }
 
@@ -145,17 +146,27 @@ fn odd_by(d: u16, odd: u64, negative: u64) -> u64
     odd
 }
 
-// The sum of the signs at the points left: − at the odd points among them, + at the others.
-fn balance(left: u64, odd: u64) -> i64
-    ensures { λ r. ⌜ r ≡ pos (ones left) -ℤ pos (2 * ones (bitAnd left odd)) ⌝ }
+// The three counts of a product over n points by two words: − at the odd ones of the points left, + at the others, and 0 at the points that are not left.
+fn counts_by(n: usize, left: u64, odd: u64) -> SignCounts
+    requires { ⌜ (n ≤ mostPoints) × (left < 2 ^ n) ⌝ }
+    ensures { λ r. ⌜ r ≡ record { positive = ones left - ones (bitAnd left odd); negative = ones (bitAnd left odd); zero = n - ones left } ⌝ }
 {
-    u64::count_ones(left) as i64 - (2 * u64::count_ones(left & odd)) as i64
+    let some = u64::count_ones(left) as usize;
+    let odds = u64::count_ones(left & odd) as usize;
+    let plus = (some - odds) as u16;
+    let minus = odds as u16;
+    let none = (n - some) as u16;
+    SignCounts {
+        positive: plus,
+        negative: minus,
+        zero: none,
+    }
 }
 
-// The sum of the signs of the product a over the points of an opened card: all points at once, polynomial by polynomial, the last one first.
-fn sum(card: Opened, a: u16) -> i64
+// The three counts of the product a over the points of an opened card: all points at once, polynomial by polynomial, the last one first.
+fn count(card: Opened, a: u16) -> SignCounts
     requires { ⌜ (card .s ≤ mostPolynomials) × (card .n ≤ mostPoints) × (a < 3 ^ card .s) ⌝ }
-    ensures { λ r. ⌜ r ≡ summed card a ⌝ }
+    ensures { λ r. ⌜ r ≡ countsOn card a ⌝ }
 {
     let mut left = first_points(card.n);
     let mut odd: u64 = 0;
@@ -169,11 +180,11 @@ fn sum(card: Opened, a: u16) -> i64
         odd = odd_by(d, odd, card.negative[j]);
         rest -= d * w;
     }
-    balance(left, odd)
+    counts_by(card.n, left, odd)
 }
 
-// The query of a product on an opened card. The card's own number comes first, then 13 for a product number above 3^s − 1. An opened card that `open`
-// could not have left, by its number, s or n, gets 3.
+// The query of a product on an opened card: its three counts. The card's own number comes first, then 13 for a product number above 3^s − 1. An opened
+// card that `open` could not have left, by its number, s or n, gets 3.
 pub fn ask(card: Opened, a: Product) -> Queried
     ensures { λ r. ⌜ r ≡ openedAnswer card (a .0) ⌝ }
 {
@@ -195,11 +206,11 @@ pub fn ask(card: Opened, a: Product) -> Queried
     if bound(card.s) <= a.0 {
         return Queried::Refused(WRONG_PRODUCT);
     }
-    Queried::Number(sum(card, a.0))
+    Queried::Counts(count(card, a.0))
 }
 
-// The query of a product on a card, in one call: the number that refuses the card, then 13 for a product number above 3^s − 1, else the query. No
-// polynomial is evaluated before both are tested.
+// The query of a product on a card, in one call: the number that refuses the card, then 13 for a product number above 3^s − 1, else its three
+// counts. No polynomial is evaluated before both are tested.
 pub fn query(card: &[u8], a: Product) -> Queried
     ensures { λ r. ⌜ r ≡ queryAnswer (now (card .entry)) (a .0) ⌝ }
 {
@@ -208,7 +219,7 @@ pub fn query(card: &[u8], a: Product) -> Queried
             if bound(s) <= a.0 {
                 return Queried::Refused(WRONG_PRODUCT);
             }
-            Queried::Number(sum(open_sound(card, s, n), a.0))
+            Queried::Counts(count(open_sound(card, s, n), a.0))
         }
         Card::Refused(m) => Queried::Refused(m),
     }

@@ -12,20 +12,18 @@ use denote.Ref.{now}
 use Rattle.refusals.specs.Limits.{mostPolynomials}
 use Rattle.runs.specs.Run.{State, Step, ask, refused}
 use Rattle.runs.proofs.Sets.{step-set}
-use Rattle.query.specs.Claim.{OpenedGives}
 use Rattle.query.specs.declared.Opened.{Opened}
-use Rattle.query.proofs.Calls.{opened-gives, opened-through}
 use Rattle.determination.specs.Record.{startedOf}
 use Rattle.determination.specs.DemandOne.{AnswerClaim, DemandOne}
 use Rattle.determination.specs.declared.Run.{Run}
 use Rattle.determination.proofs.Worlds.{fact-held}
 use Rattle.determination.proofs.DemandOne.{answer-claim, fetch-claim, copy-claim, claim-prop, run-set}
 use Rattle.tarski.specs.declared.FlatStep.{FlatStep}
-use Rattle.tarski.specs.declared.Number.{Number}
-use Rattle.tarski.specs.Flat.{numberOf, flatStepOf, keptOn, AnswerGivesFlat, StartGivesFlat}
+use Rattle.tarski.specs.declared.FlatCounts.{FlatCounts}
+use Rattle.tarski.specs.Flat.{flatStepOf, keptOn, AnswerGivesFlat, StartGivesFlat}
 use Rattle.tarski.specs.Plain.{stepFrom}
-use Rattle.tarski.specs.Claim.{noNumber, aNumber, StartClaim}
-use Rattle.tarski.proofs.DemandTwo.{Asked, asked-answer}
+use Rattle.tarski.specs.Claim.{AskGives, StartClaim}
+use Rattle.tarski.proofs.DemandTwo.{Asked, asked-answer, ask-gives}
 use Rattle.tarski.proofs.DemandThree.{Started, Took, Fetches, Copies, step-back, keeps-fetches, keeps-copies}
 
 answers : (c : Run) (z : ℤ) (c′ : Run) (x : Step) → Took c z c′ x → AnswerClaim c c′ x
@@ -44,9 +42,8 @@ demand1-library = record {
 }
 
 -- DEMAND 1 for a query on a lent opened card, whatever it holds
-pub demand1-library-ask : (k : Opened) (α : ℕ) (o : Number) → Asked k α o → OpenedGives k α noNumber aNumber o
-unfolding numberOf
-demand1-library-ask k α o a = rw (asked-answer k α o a) (opened-through numberOf (opened-gives k α))
+pub demand1-library-ask : (k : Opened) (α : ℕ) (o : FlatCounts) → Asked k α o → AskGives k α o
+demand1-library-ask k α o a = rw (asked-answer k α o a) (ask-gives k α)
 
 -- ---- a start
 

@@ -4,8 +4,8 @@ use Rattle.query.proofs.Opened as O
 use Rattle.query.proofs.Opened.Laws as O′
 use Rattle.determination.proofs.Lent.{run}
 use Rattle.determination.proofs.Pieces.{Piece, Pair, apart, struct-piece}
-use Rattle.tarski.proofs.Number as N
-use Rattle.tarski.proofs.Number.Laws as N′
+use Rattle.tarski.proofs.FlatCounts as N
+use Rattle.tarski.proofs.FlatCounts.Laws as N′
 use Rattle.tarski.proofs.FlatRow as R
 use Rattle.tarski.proofs.FlatRow.Laws as R′
 use Rattle.tarski.proofs.FlatStep as S
@@ -16,8 +16,8 @@ use Rattle.tarski.proofs.FlatAnswered.Laws as P′
 abbrev pub opened : Piece
 opened = struct-piece O.the-type O′.the-laws O′.the-plain O′.the-copy
 
-abbrev pub number : Piece
-number = struct-piece N.the-type N′.the-laws N′.the-plain N′.the-copy
+abbrev pub counts : Piece
+counts = struct-piece N.the-type N′.the-laws N′.the-plain N′.the-copy
 
 abbrev pub row : Piece
 row = struct-piece R.the-type R′.the-laws R′.the-plain R′.the-copy

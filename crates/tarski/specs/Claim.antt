@@ -3,26 +3,36 @@
 -- keep them, known by their contracts alone, is proofs/DemandTwo.antt, with the claims on adapted lists and on the solver, and
 -- proofs/DemandOne.antt.
 --
---   noNumber k          == a value or a query that is refused by the number k
---   aNumber z           == the value or the query z
+--   noNumber k          == a value that is refused by the number k
+--   aNumber z           == the value z
+--   noCounts k          == a query that is refused by the number k
+--   someCounts z t      == the query z with the three counts t
 --   CheckGives c o      == `tarski_check` on the card c: s and n
 --   ValueGives c j x o  == `tarski_value`: the value of polynomial j at x, or 14
 --   QueryGives c α o    == `tarski_query`, and `tarski_ask` on the card opened: the sum over the points of the sign of the product's
---                          value, or 13
+--                          value, and at how many of them that value is positive, negative and 0, or 13; the three add up to the points
+--   AskGives k α o      == `tarski_ask` on the opened card k, whatever it holds: the same by its bits
 --   StartClaim s c c′ x == `tarski_start` for s polynomials in the lent record c leaves c′ and gives the step x: product 0 to ask; or 3,
 --                          "all lent memory; no run begins"
 use mathlib.Core.Path.{_≡_}
 use mathlib.Core.List.{List}
-use Prim.Native.Nat.{ℕ, _^_, _<_, _≤_}
+use Prim.Native.Nat.{ℕ, _+_, _^_, _<_, _≤_}
 use lib.IntN.{ℤ, pos}
+use lib.ListN.{length}
+use Rattle.sign_counts.specs.declared.SignCounts.{SignCounts}
 use Rattle.layout.specs.Format.{polynomials, pointCount, offset}
 use Rattle.layout.specs.Values.{value}
+use Rattle.layout.specs.Contents.{contentsOf}
 use Rattle.card.specs.Claim.{CardGives}
-use Rattle.query.specs.Query.{queryOf}
+use Rattle.query.specs.Query.{queryOf, countsOf}
+use Rattle.query.specs.Opened.{countsOn, summed}
+use Rattle.query.specs.Claim.{OpenedGives}
+use Rattle.query.specs.declared.Opened.{Opened}
 use Rattle.runs.specs.Run.{Step, ask, refused}
 use Rattle.determination.specs.declared.Run.{Run}
 use Rattle.tarski.specs.declared.Checked.{Checked}
 use Rattle.tarski.specs.declared.Number.{Number}
+use Rattle.tarski.specs.declared.FlatCounts.{FlatCounts}
 
 abbrev pub noNumber : ℕ → Number
 noNumber k = record { number = pos 0; refusal = k }
@@ -38,8 +48,19 @@ CheckGives c o =
 abbrev pub ValueGives : List ℕ → ℕ → ℤ → Number → Type 0
 ValueGives c j x o = CardGives c (j < polynomials c) 14 noNumber (aNumber (value c (offset c j) x)) o
 
-abbrev pub QueryGives : List ℕ → ℕ → Number → Type 0
-QueryGives c α o = CardGives c (α < 3 ^ polynomials c) 13 noNumber (aNumber (queryOf c α)) o
+abbrev pub noCounts : ℕ → FlatCounts
+noCounts k = record { number = pos 0; positive = 0; negative = 0; zero = 0; refusal = k }
+
+abbrev pub someCounts : ℤ → SignCounts → FlatCounts
+someCounts z t = record { number = z; positive = t .positive; negative = t .negative; zero = t .zero; refusal = 0 }
+
+pub record QueryGives (c : List ℕ) (α : ℕ) (o : FlatCounts) : Type 0 where
+  pub shown : CardGives c (α < 3 ^ polynomials c) 13 noCounts (someCounts (queryOf c α) (countsOf c α)) o
+  pub add-up : o .refusal ≡ 0 → o .positive + o .negative + o .zero ≡ length (contentsOf c .points)
+
+pub record AskGives (k : Opened) (α : ℕ) (o : FlatCounts) : Type 0 where
+  pub shown : OpenedGives k α noCounts (someCounts (summed k α) (countsOn k α)) o
+  pub add-up : o .refusal ≡ 0 → o .positive + o .negative + o .zero ≡ k .n
 
 pub record StartClaim (s : ℕ) (c c′ : Run) (x : Step) : Type 0 where
   pub begins : 1 ≤ s → s ≤ 8 → x ≡ ask 0

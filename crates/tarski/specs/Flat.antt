@@ -2,7 +2,7 @@
 --
 --   cardOf a                        == s and n of a sound card; no polynomials and no points where it is refused
 --   valueOf a                       == a value, or 0 where it is refused
---   numberOf a                      == a query, or 0 where it is refused
+--   flatCountsOf a                  == the panel number of a query and its three counts; 0 for each where it is refused
 --   listRefusalOf a                 == the number that refuses a call for an adapted list, or 0
 --   refusalOf a                     == the number that refuses a solver's call, or 0
 --   flatStepOf a                    == a step of a run: 0 with the product to ask, 1 done, 2 with the number that refuses
@@ -24,6 +24,7 @@ use Rattle.card.specs.declared.Evaluated.{Evaluated}
 use Rattle.card.specs.declared.Evaluated.the-variants as of-value
 use Rattle.adapted_list.specs.declared.Listed.{Listed}
 use Rattle.adapted_list.specs.declared.Listed.the-variants as of-list
+use Rattle.sign_counts.specs.Counts.{panelNumber}
 use Rattle.query.specs.declared.Queried.{Queried}
 use Rattle.query.specs.declared.Queried.the-variants as of-query
 use Rattle.solver.specs.declared.Solved.{Solved}
@@ -34,6 +35,7 @@ use Rattle.determination.specs.Record.{stateOf, AnswerGives, startedOf}
 use Rattle.determination.specs.declared.Run.{Run}
 use Rattle.tarski.specs.declared.Checked.{Checked}
 use Rattle.tarski.specs.declared.Number.{Number}
+use Rattle.tarski.specs.declared.FlatCounts.{FlatCounts}
 use Rattle.tarski.specs.declared.FlatStep.{FlatStep}
 use Rattle.tarski.specs.declared.FlatRow.{FlatRow}
 use Rattle.tarski.specs.declared.FlatCopied.{FlatCopied}
@@ -46,9 +48,10 @@ unfoldable pub valueOf : Evaluated → Number
 valueOf (of-value.Value z) = record { number = z; refusal = 0 }
 valueOf (of-value.Refused k) = record { number = pos 0; refusal = k }
 
-unfoldable pub numberOf : Queried → Number
-numberOf (of-query.Number z) = record { number = z; refusal = 0 }
-numberOf (of-query.Refused k) = record { number = pos 0; refusal = k }
+unfoldable pub flatCountsOf : Queried → FlatCounts
+flatCountsOf (of-query.Counts t) =
+    record { number = panelNumber t; positive = t .positive; negative = t .negative; zero = t .zero; refusal = 0 }
+flatCountsOf (of-query.Refused k) = record { number = pos 0; positive = 0; negative = 0; zero = 0; refusal = k }
 
 unfoldable pub listRefusalOf : Listed → ℕ
 listRefusalOf of-list.Written = 0

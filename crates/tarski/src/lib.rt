@@ -11,7 +11,7 @@ ghost use Rattle.determination.specs.Record.{stateOf, stepOf};
 ghost use Rattle.card_writer.specs.Writing.{writing};
 ghost use Rattle.card_draw.specs.Drawn.{drawing};
 ghost use Rattle.tarski.specs.Written.{writtenOf};
-ghost use Rattle.tarski.specs.Flat.{cardOf, valueOf, numberOf, refusalOf, listRefusalOf, flatStepOf, AnswerGivesFlat, StartGivesFlat, rowOf, leftOf};
+ghost use Rattle.tarski.specs.Flat.{cardOf, valueOf, flatCountsOf, refusalOf, listRefusalOf, flatStepOf, AnswerGivesFlat, StartGivesFlat, rowOf, leftOf};
 use adapted_list::Listed;
 use adapted_list::adapted_list;
 use card::Card;
@@ -29,6 +29,7 @@ use determination::start;
 use query::Opened;
 use query::Queried;
 use refusals::NONE;
+use sign_counts::panel_number;
 use signs::Product;
 use solver::Solved;
 
@@ -40,10 +41,20 @@ pub struct Checked {
     pub refusal: u16,
 }
 
-// A query or a value, or the number that refuses it.
+// A value, or the number that refuses it.
 #[repr(C)]
 pub struct Number {
     pub number: i64,
+    pub refusal: u16,
+}
+
+// The panel number of a query and its three counts, or the number that refuses it.
+#[repr(C)]
+pub struct FlatCounts {
+    pub number: i64,
+    pub positive: u16,
+    pub negative: u16,
+    pub zero: u16,
     pub refusal: u16,
 }
 
@@ -131,27 +142,33 @@ pub extern "C" fn tarski_value(card: &[u8], j: usize, x: i8) -> Number
 }
 
 // A query's answer as plain numbers.
-fn flat(answer: Queried) -> Number
-    ensures { λ r. ⌜ r ≡ numberOf answer ⌝ }
+fn flat_counts(answer: Queried) -> FlatCounts
+    ensures { λ r. ⌜ r ≡ flatCountsOf answer ⌝ }
 {
     match answer {
-        Queried::Number(x) => Number {
-            number: x,
+        Queried::Counts(t) => FlatCounts {
+            number: panel_number(t),
+            positive: t.positive,
+            negative: t.negative,
+            zero: t.zero,
             refusal: NONE,
         },
-        Queried::Refused(k) => Number {
+        Queried::Refused(k) => FlatCounts {
             number: NO_NUMBER,
+            positive: 0,
+            negative: 0,
+            zero: 0,
             refusal: k,
         },
     }
 }
 
-// The Tarski query of a product on a card.
+// The Tarski query of a product on a card, with its three counts.
 #[no_mangle]
-pub extern "C" fn tarski_query(card: &[u8], product: u16) -> Number
-    ensures { λ r. ⌜ r ≡ numberOf (queryAnswer (now (card .entry)) product) ⌝ }
+pub extern "C" fn tarski_query(card: &[u8], product: u16) -> FlatCounts
+    ensures { λ r. ⌜ r ≡ flatCountsOf (queryAnswer (now (card .entry)) product) ⌝ }
 {
-    flat(query::query(card, Product(product)))
+    flat_counts(query::query(card, Product(product)))
 }
 
 // Opens a card: checks it and works out the signs of its polynomials at its points, once.
@@ -163,18 +180,18 @@ pub extern "C" fn tarski_open(card: &[u8]) -> Opened
 }
 
 // The query of a product on an opened card.
-fn number_on(card: Opened, product: u16) -> Number
-    ensures { λ r. ⌜ r ≡ numberOf (askedOf card product) ⌝ }
+fn counts_on(card: Opened, product: u16) -> FlatCounts
+    ensures { λ r. ⌜ r ≡ flatCountsOf (askedOf card product) ⌝ }
 {
-    flat(query::ask(card, Product(product)))
+    flat_counts(query::ask(card, Product(product)))
 }
 
 // The same on a lent one.
 #[no_mangle]
-pub extern "C" fn tarski_ask(card: &Opened, product: u16) -> Number
-    ensures { λ r. ⌜ r ≡ numberOf (askedOf (now (card .entry)) product) ⌝ }
+pub extern "C" fn tarski_ask(card: &Opened, product: u16) -> FlatCounts
+    ensures { λ r. ⌜ r ≡ flatCountsOf (askedOf (now (card .entry)) product) ⌝ }
 {
-    number_on(*card, product)
+    counts_on(*card, product)
 }
 
 // ---- cards written and drawn

@@ -1,29 +1,12 @@
 -- `generator::draw_numbers` meets its contract: what is left to draw, stored from the present place on, gives the end (`Storing`).
-use mathlib.Core.Path.{_≡_, ap, _∙_}
+use mathlib.Core.Path.{ap, _∙_}
 use Prim.Native.Nat.{ℕ, _-_, _^_, _<_}
 use native.Mathlib.Omega.{arith}
 use lib.IntN.{pos, _-ℤ_}
-use mir.Syntax.{w64}
-use mir.Val.{SFits, toZ, ofZ}
-use mir.Facts.{toZ-pos, toZ-ofZ}
-use Rattle.integers.proofs.Parts.{int, dif, parts}
+use Rattle.integers.proofs.I64.{less-fits, less-is}
 use Rattle.generator.proofs.Draws.{Storing, storing-first, storing-next, storing-last}
 use Rattle.generator.proofs.draw_numbers.Statement.{statement}
 use Rattle.generator.proofs.draw_numbers.Tie as tie
-
--- the difference of two numbers of 32 bits, as the code takes it
-module _ (a b : ℕ) (h : a < 2 ^ 32) (k : b < 2 ^ 32) where
-  apart : toZ w64 a -ℤ toZ w64 b ≡ pos a -ℤ pos b
-  apart =
-      let e : toZ w64 a ≡ pos a = toZ-pos w64 (omega arith) in
-      let f : toZ w64 b ≡ pos b = toZ-pos w64 (omega arith) in
-      rw (e, f)
-
-  less-fits : SFits w64 (toZ w64 a -ℤ toZ w64 b)
-  less-fits = rw apart (omega (int, dif (pos a) (pos b), parts (pos a -ℤ pos b)))
-
-  less-is : toZ w64 (ofZ w64 (toZ w64 a -ℤ toZ w64 b)) ≡ pos a -ℤ pos b
-  less-is = toZ-ofZ less-fits ∙ apart
 
 abbrev Inv-loop : tie.InvT-loop
 Inv-loop state m less out₀ at n next₀ k₀ out next k = Storing m less n state out₀ at out next k

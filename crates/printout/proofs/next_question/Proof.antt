@@ -1,19 +1,16 @@
 -- `printout::next_question` meets its contract.
-use mir.Syntax.{w64}
-use mir.Val.{SFits}
-use mir.ValLaws.{toZ-ofZ}
+use borrow.Author.Needs.{needs, sfits-of}
+use mir.Facts.{toZ-ofZ}
 use Rattle.printout.proofs.Showing.{made, numbered, not-shown}
-use borrow.Author.Needs.{needs}
 use Rattle.printout.proofs.next_question.Statement.{statement}
 use Rattle.printout.proofs.next_question.Tie as tie
 
 returns : tie.Need-returns
 returns c =
-    let a = c .before .before .before .before in
-    let b = c .before .before .«z» .given in
-    let f : SFits w64 (b .0 .0) = search needs in
+    let a = c .before .before .before .before .before in
+    let b = c .before .before .before .t .given in
     numbered _ (a .before .args .card) (a .before .args .run) (a .before .args .a .0) _ _ (a .ask .ensures) (b .0 .0) (b .1)
-    (rw (toZ-ofZ w64 (b .0 .0) f) at (c .take-answer .ensures))
+    (rw (toZ-ofZ (sfits-of (c .before .panel-number .ok)), c .before .panel-number .ensures) at (c .take-answer .ensures))
 
 returns-2 : tie.Need-returns-2
 returns-2 c =
@@ -24,5 +21,5 @@ returns-2 c =
 
 pub next-question-spec : {M : Type 1} → statement M
 next-question-spec =
-    tie.close (tie.spec (λ c κs. search needs) (λ c. search needs) (λ c κs. search needs) (λ c. search needs) (λ c κs. search needs)
-    (λ c κs. search needs) returns returns-2)
+    tie.close (tie.spec (λ c κs. search needs) (λ c. search needs) (λ c κs. search needs) (λ c κs. search needs) (λ c. search needs)
+    (λ c κs. search needs) (λ c κs. search needs) returns returns-2)

@@ -2,11 +2,10 @@
 use mathlib.Core.Path.{_≡_, sym, ap, _∙_}
 use mathlib.Core.Bool.{false}
 use native.Mathlib.Omega.{arith}
-use borrow.Author.Needs.{needs, sfits-of}
-use mir.Facts.{toZ-ofZ}
+use borrow.Author.Needs.{needs}
 use Rattle.query.specs.declared.Queried.the-variants as Answer
 use Rattle.query.specs.Opened.{unlimited}
-use Rattle.query.proofs.Opening.{answer-foreign, answer-own, answer-limits, answer-product, answer-number, few, many, crowded}
+use Rattle.query.proofs.Opening.{answer-foreign, answer-own, answer-limits, answer-product, answer-counts, few, many, crowded}
 use Rattle.query.proofs.Opening.{limits}
 use Rattle.query.proofs.ask.Statement.{statement}
 use Rattle.query.proofs.ask.Tie as tie
@@ -52,17 +51,17 @@ within c =
 returns-6 : tie.Need-returns-6
 returns-6 c = let w = within (c .before .before .before) in answer-product _ _ (w .0) (w .1) (omega arith)
 
-sum-requires : tie.Need-sum-requires
-sum-requires c κs = search needs
+count-requires : tie.Need-count-requires
+count-requires c κs = search needs
 
 returns-7 : tie.Need-returns-7
 returns-7 c =
     let s = c .before .before .before .before .before .before .before .before .before .before .before .before in
     let w = within (c .before .before .before .before) in
-    ap Answer.Number (toZ-ofZ (sfits-of (c .sum .ok)) ∙ c .sum .ensures)
-    ∙ answer-number (s .args .card) (s .args .a .0) (w .0) (w .1) (omega arith)
+    ap Answer.Counts (c .count .ensures)
+    ∙ answer-counts (s .args .card) (s .args .a .0) (w .0) (w .1) (omega arith)
 
 pub ask-spec : {M : Type 1} → statement M
 ask-spec =
     tie.close
-    (tie.spec is-card-number-requires returns returns-2 returns-3 returns-4 returns-5 bound-requires returns-6 sum-requires returns-7)
+    (tie.spec is-card-number-requires returns returns-2 returns-3 returns-4 returns-5 bound-requires returns-6 count-requires returns-7)

@@ -2,16 +2,15 @@
 use mathlib.Core.Path.{sym, ap, subst, _∙_}
 use Prim.Native.Nat.{ℕ, _^_, _≤_, _<_}
 use native.Mathlib.Omega.{arith}
-use borrow.Author.Needs.{needs, sfits-of}
-use mir.Facts.{toZ-ofZ}
+use borrow.Author.Needs.{needs}
 use Rattle.layout.specs.Format.{polynomials}
 use Rattle.layout.specs.Contents.{contentsOf}
 use Rattle.layout.proofs.Contents.{points-long}
 use Rattle.card.proofs.Positions.{Taken, taken}
 use Rattle.query.specs.declared.Opened.{Opened}
 use Rattle.query.specs.declared.Queried.the-variants as Answer
-use Rattle.query.specs.Opened.{summed}
-use Rattle.query.proofs.Opening.{summed-is}
+use Rattle.query.specs.Opened.{countsOn}
+use Rattle.query.proofs.Opening.{counts-are}
 use Rattle.query.proofs.Answers.{query-sound, query-past, query-read}
 use Rattle.query.proofs.query.Statement.{statement}
 use Rattle.query.proofs.query.Tie as tie
@@ -38,8 +37,8 @@ returns c =
 open-sound-requires : tie.Need-open-sound-requires
 open-sound-requires c κs = let t = read-as (c .before .before .before) in (t .card, t .s-is, t .n-is)
 
-sum-requires : tie.Need-sum-requires
-sum-requires c κs =
+count-requires : tie.Need-count-requires
+count-requires c κs =
     let t = read-as (c .before .before .before .before) in
     let a = c .before .before .before .before .before .before .before .before .before .args in
     let e = c .open-sound .ensures in
@@ -57,9 +56,9 @@ returns-2 c =
     let t = read-as (c .before .before .before .before .before) in
     let a = c .before .before .before .before .before .before .before .before .before .before .args in
     let b : a .a .0 < 3 ^ polynomials (a .card .now) = subst (λ (n : ℕ). a .a .0 < 3 ^ n) (t .s-is) (omega arith) in
-    ap Answer.Number
-    (toZ-ofZ (sfits-of (c .sum .ok)) ∙ c .sum .ensures ∙ ap (λ (o : Opened). summed o (a .a .0)) (c .before .open-sound .ensures)
-    ∙ summed-is (contentsOf (a .card .now)) (t .card .s-most) (a .a .0))
+    ap Answer.Counts
+    (c .count .ensures ∙ ap (λ (o : Opened). countsOn o (a .a .0)) (c .before .open-sound .ensures)
+    ∙ counts-are (contentsOf (a .card .now)) (t .card .s-most) (a .a .0))
     ∙ sym (query-sound _ _ (t .card) b)
 
 returns-3 : tie.Need-returns-3
@@ -68,4 +67,4 @@ returns-3 c = query-read _ _ _ (sym (c .before .before .before .read .ensures) �
 pub query-spec : {M : Type 1} → statement M
 query-spec =
     tie.close
-    (tie.spec read-requires enum-known-s bound-requires returns open-sound-requires sum-requires enum-known-m returns-2 returns-3)
+    (tie.spec read-requires enum-known-s bound-requires returns open-sound-requires count-requires enum-known-m returns-2 returns-3)

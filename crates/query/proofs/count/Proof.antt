@@ -1,13 +1,12 @@
--- `query::sum` meets its contract: the digits passed are in the two words, those left below.
-use mathlib.Core.Path.{_≡_, _∙_}
+-- `query::count` meets its contract: the digits passed are in the two words, those left below.
+use mathlib.Core.Path.{_≡_}
 use Prim.Native.Nat.{suc, _-_, _+_, _*_, _%_, _^_, _≤_, _<_}
 use native.Mathlib.Omega.{arith}
 use native.Mathlib.Nat.{one-le-pow, pow-suc, pow-le-pow-right, div-add-mod', mod-lt}
-use borrow.Author.Needs.{needs, sfits-of}
-use mir.Facts.{toZ-ofZ}
-use Rattle.query.proofs.Counting.{Kept, kept-none, kept-off, summed-words}
-use Rattle.query.proofs.sum.Statement.{statement}
-use Rattle.query.proofs.sum.Tie as tie
+use borrow.Author.Needs.{needs}
+use Rattle.query.proofs.Counting.{Kept, kept-none, kept-off, counts-words}
+use Rattle.query.proofs.count.Statement.{statement}
+use Rattle.query.proofs.count.Tie as tie
 
 abbrev Inv-loop : tie.InvT-loop
 Inv-loop a card left₀ odd₀ rest₀ j₀ left odd rest j = (j ≤ card .s) × (rest < 3 ^ j) × Kept card a rest j left odd
@@ -105,18 +104,17 @@ loop-again c =
           (c .before .before .left-by .ensures) (c .odd-by .ensures) (l .inv .2),
     )
 
-balance-requires : tie.Need-balance-requires Inv-loop μ-loop
-balance-requires c κs = tt
+counts-by-requires : tie.Need-counts-by-requires Inv-loop μ-loop
+counts-by-requires c κs = (c .before .before .before .pre .1, c .before .loop .inv .2 .small)
 
 returns : tie.Need-returns Inv-loop μ-loop
 returns c =
     let s = c .before .before .before .before in
     let l = c .before .before .loop in
-    toZ-ofZ (sfits-of (c .balance .ok)) ∙ c .balance .ensures
-    ∙ summed-words (s .args .t1) (s .args .a) (l .rest) (l .j) (l .left) (l .odd) (l .inv .2) (omega arith)
+    rw (c .counts-by .ensures) (counts-words (s .args .t1) (s .args .a) (l .rest) (l .j) (l .left) (l .odd) (l .inv .2) (omega arith))
 
-pub sum-spec : {M : Type 1} → statement M
-sum-spec =
+pub count-spec : {M : Type 1} → statement M
+count-spec =
     tie.close
     (tie.spec
     Inv-loop
@@ -138,5 +136,5 @@ sum-spec =
     sub-rest
     loop-less
     loop-again
-    balance-requires
+    counts-by-requires
     returns)
