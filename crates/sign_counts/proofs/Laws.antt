@@ -2,16 +2,15 @@
 -- together that of their squares; and nothing but the signs counts.
 use mathlib.Core.Path.{_≡_, refl, ap, ap₂, _∙_}
 use mathlib.Core.List.{List, [], _∷_, map}
-use Prim.Native.Nat.{ℕ, zero, suc, _+_}
+use Prim.Native.Nat.{zero, suc, _+_}
 use native.Mathlib.Omega.{arith}
-use lib.IntN.{ℤ, pos, negsuc, _+ℤ_, _-ℤ_, _*ℤ_}
+use lib.IntN.{ℤ, pos, negsuc, _*ℤ_}
 use lib.ListN.{length}
 use Rattle.integers.specs.Sign.{sgnℤ}
 use Rattle.integers.specs.Sums.{sumℤ}
-use Rattle.integers.proofs.Parts.{int, sum, dif}
+use Rattle.integers.proofs.Parts.{Dif, int, sum, dif}
 use Rattle.signs.specs.Lists.{times}
 use Rattle.signs.specs.Signs.{signDigit}
-use Rattle.signs.specs.Bits.{bitOf}
 use Rattle.sign_counts.specs.declared.SignCounts.{SignCounts}
 use Rattle.sign_counts.specs.Counts.{signCounts, panelNumber, inAll}
 
@@ -23,28 +22,20 @@ all-counted (pos zero ∷ zs) = omega (arith, all-counted zs)
 all-counted (pos (suc n) ∷ zs) = omega (arith, all-counted zs)
 all-counted (negsuc n ∷ zs) = omega (arith, all-counted zs)
 
--- one number more: a and b are 1 or 0
-one-more : (a b p n : ℕ) → pos (a + p) -ℤ pos (b + n) ≡ (pos a -ℤ pos b) +ℤ (pos p -ℤ pos n)
-one-more a b p n =
-    omega (
-      int,
-      dif (pos (a + p)) (pos (b + n)),
-      sum (pos a -ℤ pos b) (pos p -ℤ pos n),
-      dif (pos a) (pos b),
-      dif (pos p) (pos n),
-    )
+-- the panel number, as a difference that `omega` reads
+shown : (t : SignCounts) → Dif (pos (t .positive)) (pos (t .negative)) (panelNumber t)
+shown t = dif (pos (t .positive)) (pos (t .negative))
 
 -- THE LAW: the first less the second is the sum of the signs
 pub panel-sum : (zs : List ℤ) → panelNumber (signCounts zs) ≡ sumℤ (map sgnℤ zs)
 unfolding signCounts times signDigit sumℤ
 panel-sum [] = refl
-panel-sum (z ∷ zs) = one (signCounts zs) z (panel-sum zs)
-  where
-    one : (t : SignCounts) (y : ℤ) → panelNumber t ≡ sumℤ (map sgnℤ zs)
-        → pos (bitOf 1 (signDigit y) + t .positive) -ℤ pos (bitOf 2 (signDigit y) + t .negative) ≡ sgnℤ y +ℤ sumℤ (map sgnℤ zs)
-    one t (pos zero) e = one-more 0 0 (t .positive) (t .negative) ∙ ap (λ (x : ℤ). pos 0 +ℤ x) e
-    one t (pos (suc n)) e = one-more 1 0 (t .positive) (t .negative) ∙ ap (λ (x : ℤ). pos 1 +ℤ x) e
-    one t (negsuc n) e = one-more 0 1 (t .positive) (t .negative) ∙ ap (λ (x : ℤ). negsuc 0 +ℤ x) e
+panel-sum (pos zero ∷ zs) =
+    omega (int, shown (signCounts (pos zero ∷ zs)), shown (signCounts zs), sum (pos 0) (sumℤ (map sgnℤ zs)), panel-sum zs)
+panel-sum (pos (suc n) ∷ zs) =
+    omega (int, shown (signCounts (pos (suc n) ∷ zs)), shown (signCounts zs), sum (pos 1) (sumℤ (map sgnℤ zs)), panel-sum zs)
+panel-sum (negsuc n ∷ zs) =
+    omega (int, shown (signCounts (negsuc n ∷ zs)), shown (signCounts zs), sum (negsuc 0) (sumℤ (map sgnℤ zs)), panel-sum zs)
 
 -- THE LAW: the first and the second together are the sum of the signs' squares. The three laws leave no other counts
 pub squares-sum : (zs : List ℤ) →
