@@ -86,6 +86,12 @@ fn queries(s: usize, list: &[u16]) -> Vec<i64> {
     products.iter().map(|&a| plain::ask(&card, a).unwrap().number).collect()
 }
 
+/// The candidate's sheet: 593 products of 8 polynomials.
+fn sheet() -> Vec<u16> {
+    let mut state = 593;
+    (0..593).map(|_| (next(&mut state) % 6561) as u16).collect()
+}
+
 fn main() {
     let words: Vec<String> = std::env::args().collect();
     let number = |k: usize, other: u64| words.get(k).map_or(other, |w| w.parse().unwrap());
@@ -97,6 +103,9 @@ fn main() {
         None => ORACLE.lines().map(|l| l.parse().unwrap()).collect(),
     };
     let card = longest();
+    let products = sheet();
+    let list: Vec<tarski::Product> = products.iter().map(|&a| tarski::Product(a)).collect();
+    let mut numbers = [0; 593];
     let mut work: Box<dyn FnMut()> = match (words[1].as_str(), proved) {
         ("check", true) => Box::new(|| assert_eq!(tarski::check(black_box(&card)), Ok((8, 64)))),
         ("check", false) => Box::new(|| assert_eq!(plain::check(black_box(&card)), Ok((8, 64)))),
@@ -164,6 +173,37 @@ fn main() {
                 product = next;
             }
             assert_eq!(run.asked, 463);
+        }),
+        ("open", true) => Box::new(|| assert!(tarski::open(black_box(&card)).is_ok())),
+        ("open", false) => Box::new(|| assert!(plain::open(black_box(&card)).is_ok())),
+        ("queries", true) => {
+            let opened = tarski::open(&card).unwrap();
+            Box::new(move || {
+                for (&a, number) in black_box(&list).iter().zip(&mut numbers) {
+                    *number = opened.ask(a).unwrap().number;
+                }
+            })
+        }
+        ("queries", false) => {
+            let opened = plain::open(&card).ok().unwrap();
+            Box::new(move || {
+                for (&a, number) in black_box(&products).iter().zip(&mut numbers) {
+                    *number = plain::ask(&opened, a).ok().unwrap().number;
+                }
+            })
+        }
+        ("list", true) => {
+            let opened = tarski::open(&card).unwrap();
+            Box::new(move || opened.ask_all(black_box(&list), &mut numbers).unwrap())
+        }
+        ("list", false) => {
+            let opened = plain::open(&card).ok().unwrap();
+            Box::new(move || plain::ask_all(&opened, black_box(&products), &mut numbers).unwrap())
+        }
+        ("sheet", true) => Box::new(move || tarski::query_all(black_box(&card), &list, &mut numbers).unwrap()),
+        ("sheet", false) => Box::new(move || {
+            let opened = plain::open(black_box(&card)).ok().unwrap();
+            plain::ask_all(&opened, &products, &mut numbers).unwrap()
         }),
         _ => panic!("no such line"),
     };

@@ -159,6 +159,20 @@ pub fn ask(card: &Opened, product: u16) -> Result<Counts, u16> {
     Ok(Counts { number: positive as i64 - negative as i64, positive, negative, zero: card.n as u16 - some })
 }
 
+/// The numbers of a list of products to the front of out; or the refusal, for a bad product with its position.
+pub fn ask_all(card: &Opened, products: &[u16], out: &mut [i64]) -> Result<(), (u16, usize)> {
+    if out.len() < products.len() {
+        return Err((15, 0));
+    }
+    if let Some(position) = products.iter().position(|&a| a >= POWERS[card.s]) {
+        return Err((13, position));
+    }
+    for (&a, number) in products.iter().zip(out) {
+        *number = ask(card, a).map_err(|refusal| (refusal, 0))?.number;
+    }
+    Ok(())
+}
+
 // ---- adapted lists
 
 /// The last polynomial, of weight w, taken off: the patterns left, the signs that each stood with, and where each pattern's went.

@@ -22,12 +22,12 @@
 extern "C" {
 #endif
 
-/* The version of this header and of the library beside it. Since 0.4.0 tarski_query and tarski_ask give struct tarski_counts, in which `number` is what
- * they gave before as struct tarski_number. */
+/* The version of this header and of the library beside it. New in 0.5.0: tarski_query_all and tarski_ask_all. Since 0.4.0 tarski_query and tarski_ask
+ * give struct tarski_counts, in which `number` is what they gave before as struct tarski_number. */
 #define TARSKI_VERSION_MAJOR 0
-#define TARSKI_VERSION_MINOR 4
+#define TARSKI_VERSION_MINOR 5
 #define TARSKI_VERSION_PATCH 0
-#define TARSKI_VERSION "0.4.0"
+#define TARSKI_VERSION "0.5.0"
 
 /* The most polynomials and the most points of a card, and the most rows of a run. */
 #define TARSKI_MOST_POLYNOMIALS 8
@@ -126,13 +126,20 @@ struct tarski_counts {
     uint16_t refusal;
 };
 
-/* An opened card: the signs of its polynomials at its points. Made by tarski_open, and read by tarski_ask alone. */
+/* An opened card: the signs of its polynomials at its points. Made by tarski_open, and read by tarski_ask and tarski_ask_all alone. */
 struct tarski_opened {
     uint16_t refusal;
     size_t polynomials;
     size_t points;
     uint64_t positive[8];
     uint64_t negative[8];
+};
+
+/* How a list of products is answered: with 0 where the numbers are written. For 13 `position` is where in the list the first bad product stands, from 0;
+ * else it is 0. */
+struct tarski_numbered {
+    size_t position;
+    uint16_t refusal;
 };
 
 /* Checks a card: 1 to 6, 16 and 17 refuse it. */
@@ -145,6 +152,14 @@ struct tarski_counts tarski_query(const uint8_t *card, size_t length, struct tar
 struct tarski_opened tarski_open(const uint8_t *card, size_t length);
 /* The query of a product on an opened card: the card's number, then 13. */
 struct tarski_counts tarski_ask(const struct tarski_opened *card, struct tarski_product product);
+/* Writes to out the numbers that the panel shows of a list of products on a card, in the list's order: the card is opened once. The list may be empty and
+ * may have a product more than once. Refused in this order: by the card's number, by 15 (out is shorter than the list), by 13 (a product is above
+ * 3^s - 1). A refusal writes nothing; past the numbers out keeps what lay there. */
+struct tarski_numbered tarski_query_all(const uint8_t *card, size_t length, const struct tarski_product *products, size_t product_count, int64_t *out,
+                                        size_t out_length);
+/* The same on an opened card. */
+struct tarski_numbered tarski_ask_all(const struct tarski_opened *card, const struct tarski_product *products, size_t product_count, int64_t *out,
+                                      size_t out_length);
 
 /* ---- cards written and drawn */
 
@@ -241,6 +256,7 @@ TARSKI_LAID_OUT(sizeof(struct tarski_card) == 24 && offsetof(struct tarski_card,
 TARSKI_LAID_OUT(sizeof(struct tarski_number) == 16 && offsetof(struct tarski_number, refusal) == 8);
 TARSKI_LAID_OUT(sizeof(struct tarski_counts) == 16 && offsetof(struct tarski_counts, positive) == 8 && offsetof(struct tarski_counts, negative) == 10);
 TARSKI_LAID_OUT(offsetof(struct tarski_counts, zero) == 12 && offsetof(struct tarski_counts, refusal) == 14);
+TARSKI_LAID_OUT(sizeof(struct tarski_numbered) == 16 && offsetof(struct tarski_numbered, refusal) == 8);
 TARSKI_LAID_OUT(sizeof(struct tarski_opened) == 152 && offsetof(struct tarski_opened, polynomials) == 8);
 TARSKI_LAID_OUT(offsetof(struct tarski_opened, points) == 16 && offsetof(struct tarski_opened, positive) == 24);
 TARSKI_LAID_OUT(offsetof(struct tarski_opened, negative) == 88);

@@ -4,8 +4,9 @@
 use std::fmt;
 use std::mem::{offset_of, size_of};
 
-/// The version of this module and of the library beside it. Since 0.4.0 a query gives its `Counts`, in which `number` is what it gave before.
-pub const VERSION: (u32, u32, u32) = (0, 4, 0);
+/// The version of this module and of the library beside it. New in 0.5.0: `query_all` and `ask_all`. Since 0.4.0 a query gives its `Counts`, in which
+/// `number` is what it gave before.
+pub const VERSION: (u32, u32, u32) = (0, 5, 0);
 /// The most polynomials and the most points of a card, and the most rows of a run.
 pub const MOST_POLYNOMIALS: usize = 8;
 pub const MOST_POINTS: usize = 64;
@@ -86,6 +87,30 @@ impl fmt::Display for Refusal {
 
 impl std::error::Error for Refusal {}
 
+/// Why a list of products is refused: the refusal, and for a bad product where in the list the first one stands, from 0.
+#[derive(Clone, Copy, Debug, PartialEq, Eq, Hash)]
+pub struct ListRefusal {
+    pub refusal: Refusal,
+    pub position: Option<usize>,
+}
+
+impl fmt::Display for ListRefusal {
+    fn fmt(&self, out: &mut fmt::Formatter) -> fmt::Result {
+        match self.position {
+            Some(position) => write!(out, "{}, at position {position}", self.refusal),
+            None => self.refusal.fmt(out),
+        }
+    }
+}
+
+impl std::error::Error for ListRefusal {}
+
+impl From<ListRefusal> for Refusal {
+    fn from(list: ListRefusal) -> Refusal {
+        list.refusal
+    }
+}
+
 /// The Tarski query of a product: at how many points it is positive, at how many negative and at how many zero, which add up to the points; and the number
 /// that the panel shows, positive less negative.
 #[derive(Clone, Copy, Debug, Default, PartialEq, Eq, Hash)]
@@ -158,6 +183,12 @@ mod c {
     }
 
     #[repr(C)]
+    pub struct Numbered {
+        pub position: usize,
+        pub refusal: u16,
+    }
+
+    #[repr(C)]
     pub struct Step {
         pub kind: u16,
         pub value: u16,
@@ -188,6 +219,8 @@ mod c {
         pub fn tarski_query(card: *const u8, length: usize, product: Product) -> Counts;
         pub fn tarski_open(card: *const u8, length: usize) -> Opened;
         pub fn tarski_ask(card: *const Opened, product: Product) -> Counts;
+        pub fn tarski_query_all(card: *const u8, length: usize, products: *const Product, count: usize, out: *mut i64, room: usize) -> Numbered;
+        pub fn tarski_ask_all(card: *const Opened, products: *const Product, count: usize, out: *mut i64, room: usize) -> Numbered;
         pub fn tarski_write(
             degrees: *const usize,
             degree_count: usize,
@@ -216,6 +249,7 @@ const _: () = {
     assert!(size_of::<c::Number>() == 16 && offset_of!(c::Number, refusal) == 8);
     assert!(size_of::<c::Counts>() == 16 && offset_of!(c::Counts, positive) == 8 && offset_of!(c::Counts, negative) == 10);
     assert!(offset_of!(c::Counts, zero) == 12 && offset_of!(c::Counts, refusal) == 14);
+    assert!(size_of::<c::Numbered>() == 16 && offset_of!(c::Numbered, refusal) == 8);
     assert!(size_of::<Opened>() == 152 && offset_of!(Opened, polynomials) == 8 && offset_of!(Opened, points) == 16);
     assert!(offset_of!(Opened, positive) == 24 && offset_of!(Opened, negative) == 88);
     assert!(size_of::<Run>() == 568 && offset_of!(Run, asked) == 8 && offset_of!(Run, phase) == 16 && offset_of!(Run, round) == 24);
@@ -233,6 +267,11 @@ fn unless<T>(refusal: u16, value: T) -> Result<T, Refusal> {
 
 fn counts(told: c::Counts) -> Result<Counts, Refusal> {
     unless(told.refusal, Counts { number: told.number, positive: told.positive, negative: told.negative, zero: told.zero })
+}
+
+fn numbered(said: c::Numbered) -> Result<(), ListRefusal> {
+    let position = (said.refusal == Refusal::WRONG_PRODUCT.0).then_some(said.position);
+    unless(said.refusal, ()).map_err(|refusal| ListRefusal { refusal, position })
 }
 
 fn step(step: c::Step) -> Step {
@@ -260,6 +299,12 @@ pub fn query(card: &[u8], product: Product) -> Result<Counts, Refusal> {
     counts(unsafe { c::tarski_query(card.as_ptr(), card.len(), product) })
 }
 
+/// Writes to the front of out the numbers that the panel shows of a list of products on a card, in the list's order: the card is opened once. Refused by
+/// the card, by a short slice, or by a bad product, in this order, nothing is written.
+pub fn query_all(card: &[u8], products: &[Product], out: &mut [i64]) -> Result<(), ListRefusal> {
+    numbered(unsafe { c::tarski_query_all(card.as_ptr(), card.len(), products.as_ptr(), products.len(), out.as_mut_ptr(), out.len()) })
+}
+
 /// A card opened once, to ask many products.
 pub fn open(card: &[u8]) -> Result<Opened, Refusal> {
     let opened = unsafe { c::tarski_open(card.as_ptr(), card.len()) };
@@ -282,6 +327,11 @@ impl Opened {
 
     pub fn ask(&self, product: Product) -> Result<Counts, Refusal> {
         counts(unsafe { c::tarski_ask(self, product) })
+    }
+
+    /// The same as `query_all`, on the opened card.
+    pub fn ask_all(&self, products: &[Product], out: &mut [i64]) -> Result<(), ListRefusal> {
+        numbered(unsafe { c::tarski_ask_all(self, products.as_ptr(), products.len(), out.as_mut_ptr(), out.len()) })
     }
 }
 

@@ -65,6 +65,35 @@ static unsigned opened_count(const struct tarski_opened *card, unsigned product,
     return count;
 }
 
+/* A list of products on an opened card, with some room: its refusal by the card, the room and the first bad product, and the slice. */
+enum { LISTED = 0, LIST_BY_CARD = 1, LIST_BY_13 = 2, LIST_BY_15 = 3, LISTS = 4 };
+
+static unsigned long lists[LISTS];
+
+static void forged_list(const struct tarski_opened *card) {
+    struct tarski_product products[6];
+    int64_t out[6];
+    size_t count = draw(7), room = draw(7), position = 0;
+    for (size_t k = 0; k < 6; k++) {
+        products[k].number = (uint16_t)draw(card->polynomials <= 8 ? power(card->polynomials) + (draw(4) == 0) : 65536);
+        out[k] = 4711;
+    }
+    unsigned refusal = opened_refusal(card, 0);
+    lists[refusal ? LIST_BY_CARD : room < count ? LIST_BY_15 : LISTED]++;
+    if (!refusal && room < count)
+        refusal = 15;
+    for (size_t k = 0; !refusal && k < count; k++)
+        if (opened_refusal(card, products[k].number))
+            refusal = 13, position = k, lists[LISTED]--, lists[LIST_BY_13]++;
+    struct tarski_numbered got = tarski_ask_all(card, products, count, out, room);
+    same("refusal of a list on an opened card", refusal, got.refusal);
+    same("position of a bad product on an opened card", (long long)position, (long long)got.position);
+    for (size_t k = 0; k < 6; k++) {
+        unsigned a = products[k].number;
+        same("number of a list on an opened card", refusal || k >= count ? 4711 : (long long)opened_count(card, a, 1) - opened_count(card, a, -1), out[k]);
+    }
+}
+
 static unsigned forged_card(void) {
     struct tarski_opened card;
     static const uint16_t numbers[] = {0, 0, 0, 0, 1, 3, 5, 6, 7, 9, 13, 15, 16, 17, 18, 65535};
@@ -86,6 +115,7 @@ static unsigned forged_card(void) {
     same("points of an opened card where a product is zero", refusal ? 0 : opened_count(&card, product, 0), got.zero);
     same("query of an opened card", (long long)positive - (long long)negative, got.number);
     same("counts of an opened card together", refusal ? 0 : (long long)card.points, got.positive + got.negative + got.zero);
+    forged_list(&card);
     return refusal;
 }
 
@@ -435,6 +465,10 @@ int main(int words, char **word) {
            "that began the next, %lu done, %lu late, %lu by 8, %lu by 9, %lu by 10 for their counts, %lu by 10 for their rows): no difference\n",
            rounds, cards[0], cards[3], cards[13], served, answers[WITHIN_ROUND], answers[NEXT_ROUND], answers[ENDS_DONE], answers[LATE], answers[BY_8],
            answers[BY_9], answers[BY_10], answers[BY_10_IMPROPER]);
+    printf("forged: as many lists of products on opened cards (%lu written, %lu refused by the card, %lu by 13, %lu by 15): no difference\n", lists[LISTED],
+           lists[LIST_BY_CARD], lists[LIST_BY_13], lists[LIST_BY_15]);
+    for (size_t k = 0; k < LISTS; k++)
+        seen = seen && lists[k];
     for (size_t k = 0; k < CASES; k++)
         seen = seen && answers[k];
     if (!seen || !cards[0] || !cards[1] || !cards[3] || !cards[6] || !cards[13] || !cards[16] || !cards[17] || !served) {

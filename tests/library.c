@@ -25,6 +25,8 @@ static struct tarski_number (*volatile value_of)(const uint8_t *, size_t, size_t
 static struct tarski_counts (*volatile query_of)(const uint8_t *, size_t, struct tarski_product) = tarski_query;
 static struct tarski_opened (*open_card)(const uint8_t *, size_t) = tarski_open;
 static struct tarski_counts (*volatile ask_of)(const struct tarski_opened *, struct tarski_product) = tarski_ask;
+static struct tarski_numbered (*query_list)(const uint8_t *, size_t, const struct tarski_product *, size_t, int64_t *, size_t) = tarski_query_all;
+static struct tarski_numbered (*ask_list)(const struct tarski_opened *, const struct tarski_product *, size_t, int64_t *, size_t) = tarski_ask_all;
 static uint16_t (*adapted)(size_t, const struct tarski_pattern *, size_t, struct tarski_product *, size_t) = tarski_adapted;
 static uint16_t (*solve)(size_t, const struct tarski_pattern *, size_t, const int64_t *, size_t, int64_t *, size_t) = tarski_solve;
 static struct tarski_written (*write_card)(const size_t *, size_t, const int64_t *, size_t, const int64_t *, size_t, uint8_t *, size_t) = tarski_write;
@@ -37,7 +39,7 @@ static struct tarski_copied (*rows_of)(const struct tarski_run *, struct tarski_
 
 static void types(void) {
     SEE(check && value_of && query_of && open_card && ask_of && adapted && solve && start && answer && asked_by && row_of && rows_of);
-    SEE(write_card && draw_card);
+    SEE(write_card && draw_card && query_list && ask_list);
 }
 
 static struct tarski_product product(unsigned number) {
@@ -124,6 +126,40 @@ static void queries(void) {
     SEE(opened.refusal == TARSKI_WRONG_DEGREE && tarski_ask(&opened, product(0)).refusal == TARSKI_WRONG_DEGREE);
     opened = tarski_open(with(20, 0), length);
     SEE(opened.refusal == TARSKI_ZERO_TOP && tarski_ask(&opened, product(27)).refusal == TARSKI_ZERO_TOP);
+}
+
+/* A list of products asked in both ways, of a card's bytes so long and with so much room: the refusal and the position that both must give, and what both
+ * must leave in the slice, where 4711 stood at each of its eight places. */
+static int listed(size_t bytes, const unsigned *numbers, size_t count, size_t room, unsigned refusal, size_t position, const int64_t *left) {
+    struct tarski_product products[8];
+    int64_t first[8], second[8];
+    struct tarski_opened opened = tarski_open(card, bytes);
+    struct tarski_numbered got, asked;
+    for (int k = 0; k < 8; k++)
+        products[k] = product(numbers[k]), first[k] = second[k] = 4711;
+    got = tarski_query_all(card, bytes, products, count, first, room);
+    asked = tarski_ask_all(&opened, products, count, second, room);
+    return got.refusal == refusal && got.position == position && asked.refusal == refusal && asked.position == position
+        && memcmp(first, left, sizeof first) == 0 && memcmp(second, left, sizeof second) == 0;
+}
+
+static void lists(void) {
+    static const unsigned good[8] = {9, 0, 1, 9, 26, 9, 0, 0};
+    static const unsigned bad_first[8] = {27, 0, 1}, bad_between[8] = {0, 27, 1}, bad_last[8] = {0, 26, 65535}, two_bad[8] = {0, 28, 27};
+    static const int64_t kept[8] = {4711, 4711, 4711, 4711, 4711, 4711, 4711, 4711};
+    static const int64_t three[8] = {-1, 3, 1, 4711, 4711, 4711, 4711, 4711}, six[8] = {-1, 3, 1, -1, 3, -1, 4711, 4711};
+    struct tarski_opened refused_card;
+    int64_t out[1] = {4711};
+    SEE(listed(length, good, 3, 8, 0, 0, three) && listed(length, good, 3, 3, 0, 0, three) && listed(length, good, 6, 7, 0, 0, six));
+    SEE(listed(length, good, 0, 8, 0, 0, kept) && listed(length, good, 0, 0, 0, 0, kept));
+    SEE(listed(length, bad_first, 3, 8, TARSKI_WRONG_PRODUCT, 0, kept) && listed(length, bad_between, 3, 8, TARSKI_WRONG_PRODUCT, 1, kept));
+    SEE(listed(length, bad_last, 3, 3, TARSKI_WRONG_PRODUCT, 2, kept) && listed(length, two_bad, 3, 8, TARSKI_WRONG_PRODUCT, 1, kept));
+    SEE(listed(length, good, 3, 2, TARSKI_TOO_SHORT, 0, kept) && listed(length, good, 1, 0, TARSKI_TOO_SHORT, 0, kept));
+    SEE(listed(length, bad_between, 3, 2, TARSKI_TOO_SHORT, 0, kept) && listed(length - 1, bad_between, 3, 2, TARSKI_WRONG_LENGTH, 0, kept));
+    SEE(listed(length - 1, good, 0, 0, TARSKI_WRONG_LENGTH, 0, kept));
+    refused_card = tarski_open(with(20, 0), length);
+    SEE(tarski_ask_all(&refused_card, NULL, 0, NULL, 0).refusal == TARSKI_ZERO_TOP);
+    SEE(tarski_query_all(with(12, 7), length, NULL, 0, out, 1).refusal == TARSKI_WRONG_DEGREE && out[0] == 4711);
 }
 
 /* Why a panel shows 0: X at -1, 0 and 1 is positive and negative once each; X at 0, and 0 at four points, are zero. */
@@ -323,6 +359,7 @@ static void nothing(void) {
     struct tarski_step step = tarski_start(&run, 1);
     SEE(tarski_check(NULL, 0).refusal == TARSKI_WRONG_LENGTH && tarski_open(NULL, 0).refusal == TARSKI_WRONG_LENGTH);
     SEE(tarski_query(NULL, 0, product(0)).refusal == TARSKI_WRONG_LENGTH && tarski_value(NULL, 0, 0, 0).refusal == TARSKI_WRONG_LENGTH);
+    SEE(tarski_query_all(NULL, 0, NULL, 0, NULL, 0).refusal == TARSKI_WRONG_LENGTH && tarski_query_all(card, length, NULL, 0, NULL, 0).refusal == 0);
     SEE(tarski_write(NULL, 0, NULL, 0, NULL, 0, NULL, 0).refusal == TARSKI_WRONG_COUNT && tarski_draw(1, 1, 0, 0, NULL, 0).refusal == TARSKI_TOO_SHORT);
     SEE(tarski_adapted(1, NULL, 0, NULL, 0) == 0 && tarski_solve(1, NULL, 0, NULL, 0, NULL, 0) == 0);
     step = tarski_answer(&run, 0);
@@ -344,11 +381,12 @@ int main(int count, char **words) {
     length = fread(card, 1, sizeof card, file);
     fclose(file);
     SEE(length == 42);
-    SEE(strcmp(TARSKI_VERSION, "0.4.0") == 0 && TARSKI_VERSION_MAJOR == 0 && TARSKI_VERSION_MINOR == 4 && TARSKI_VERSION_PATCH == 0);
+    SEE(strcmp(TARSKI_VERSION, "0.5.0") == 0 && TARSKI_VERSION_MAJOR == 0 && TARSKI_VERSION_MINOR == 5 && TARSKI_VERSION_PATCH == 0);
     if (!wrong) {
         types();
         cards();
         queries();
+        lists();
         reasons();
         registers();
         solver();

@@ -3,7 +3,7 @@
 #[path = "../include/tarski.rs"]
 mod tarski;
 
-use tarski::{Counts, Opened, Pattern, Product, Refusal, Run, Step};
+use tarski::{Counts, ListRefusal, Opened, Pattern, Product, Refusal, Run, Step};
 
 fn with(card: &[u8], place: usize, byte: u8) -> Vec<u8> {
     let mut changed = card.to_vec();
@@ -42,6 +42,34 @@ fn cards(card: &[u8]) {
     let signs = Opened::of_signs(1, 4, [1, 0, 0, 0, 0, 0, 0, 0], [2, 0, 0, 0, 0, 0, 0, 0]);
     assert_eq!(signs.ask(Product(1)), Ok(Counts { number: 0, positive: 1, negative: 1, zero: 2 }));
     assert_eq!(signs.ask(Product(2)), Ok(Counts { number: 2, positive: 2, negative: 0, zero: 2 }));
+}
+
+fn lists(card: &[u8]) {
+    let opened = tarski::open(card).unwrap();
+    // the list, the room, what is given and what stands in the slice then, where 4711 stood
+    let see = |products: &[u16], room: usize, gives: Result<(), ListRefusal>, left: [i64; 4]| {
+        let products: Vec<Product> = products.iter().map(|&a| Product(a)).collect();
+        let (mut first, mut second) = ([4711; 4], [4711; 4]);
+        assert_eq!((tarski::query_all(card, &products, &mut first[..room]), first), (gives, left));
+        assert_eq!((opened.ask_all(&products, &mut second[..room]), second), (gives, left));
+    };
+    let bad = |position| Err(ListRefusal { refusal: Refusal::WRONG_PRODUCT, position: Some(position) });
+    let short = Err(ListRefusal { refusal: Refusal::TOO_SHORT, position: None });
+    see(&[9, 0, 1], 4, Ok(()), [-1, 3, 1, 4711]);
+    see(&[9, 9, 26, 9], 4, Ok(()), [-1, -1, 3, -1]);
+    see(&[], 4, Ok(()), [4711; 4]);
+    see(&[], 0, Ok(()), [4711; 4]);
+    see(&[27, 0, 1], 4, bad(0), [4711; 4]);
+    see(&[0, 27, 1], 4, bad(1), [4711; 4]);
+    see(&[0, 26, 65535], 3, bad(2), [4711; 4]);
+    see(&[0, 28, 27], 4, bad(1), [4711; 4]);
+    see(&[9, 0, 1], 2, short, [4711; 4]);
+    see(&[27, 0, 1], 2, short, [4711; 4]);
+    let (mut out, refused) = ([4711; 2], ListRefusal { refusal: Refusal::WRONG_LENGTH, position: None });
+    assert_eq!((tarski::query_all(&card[..41], &[Product(27); 3], &mut out), out), (Err(refused), [4711; 2]));
+    assert_eq!(Refusal::from(refused), Refusal::WRONG_LENGTH);
+    assert_eq!(bad(1).unwrap_err().to_string(), "refused by 13: the product number is above 3^s - 1, at position 1");
+    assert_eq!(refused.to_string(), Refusal::WRONG_LENGTH.to_string());
 }
 
 fn solver(card: &[u8]) {
@@ -128,11 +156,12 @@ fn main() {
     }
     let card = std::fs::read(word).unwrap();
     assert_eq!(card.len(), 42);
-    assert_eq!(tarski::VERSION, (0, 4, 0));
+    assert_eq!(tarski::VERSION, (0, 5, 0));
     assert_eq!(Refusal(3).to_string(), "refused by 3: s is not 1 to 8, or n is above 64");
     let limits = [tarski::MOST_POLYNOMIALS, tarski::MOST_POINTS, tarski::MOST_ROWS, tarski::MOST_QUESTIONS, tarski::LONGEST_CARD, tarski::MOST_STACK];
     assert_eq!(limits, [8, 64, 64, 593, 318, 32768]);
     cards(&card);
+    lists(&card);
     solver(&card);
     written(&card);
     runs(&card);

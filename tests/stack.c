@@ -38,7 +38,7 @@ static size_t used(void (*measured)(void)) {
 
 static void see(const char *name, void (*measured)(void)) {
     size_t bytes = used(measured);
-    printf("%-8s %zu\n", name, bytes);
+    printf("%-9s %zu\n", name, bytes);
     if (most < bytes)
         most = bytes;
 }
@@ -65,6 +65,8 @@ static void value(void) { sum += (uint64_t)tarski_value(card, length, 0, 100).nu
 static void query(void) { sum += (uint64_t)tarski_query(card, length, products[1]).number; }
 static void open(void) { opened = tarski_open(card, length); }
 static void ask(void) { sum += (uint64_t)tarski_ask(&opened, products[1]).number; }
+static void query_all(void) { sum += tarski_query_all(card, length, products, 64, numbers, 64).position; }
+static void ask_all(void) { sum += tarski_ask_all(&opened, products, 64, numbers, 64).position; }
 static void adapted(void) { sum += tarski_adapted(8, patterns, 64, products, 64); }
 static void solve(void) { sum += tarski_solve(8, patterns, 64, numbers, 64, found, 64); }
 static void put(void) { sum += tarski_write(degrees, 8, coefficients, 56, points, 64, card, sizeof card).length; }
@@ -94,7 +96,7 @@ static void play(const char *name) {
     for (int k = 0; k < 64; k++)
         if (found[k] != 1)
             puts("not solved"), exit(1);
-    see("ask", ask);
+    see("ask", ask), see("ask_all", ask_all);
     see("start", start);
     while (step.kind == TARSKI_ASK) {
         size_t bytes;
@@ -105,7 +107,7 @@ static void play(const char *name) {
     }
     if (step.kind != TARSKI_DONE)
         puts("not done"), exit(1);
-    printf("%-8s %zu, %zu questions on %s\n", "answer", deepest, tarski_asked(&run), name);
+    printf("%-9s %zu, %zu questions on %s\n", "answer", deepest, tarski_asked(&run), name);
     if (most < deepest)
         most = deepest;
     see("asked", asked);
@@ -117,14 +119,14 @@ int main(int count, char **words) {
     stack = malloc(ROOM);
     if (!stack || count < 2)
         return 2;
-    printf("%-8s %zu\n", "no call", used(nothing));
+    printf("%-9s %zu\n", "no call", used(nothing));
     for (int k = 1; k < count; k++) {
         FILE *file = fopen(words[k], "rb");
         if (!file)
             return 2;
         length = fread(card, 1, sizeof card, file);
         fclose(file);
-        see("check", check), see("value", value), see("query", query), see("open", open);
+        see("check", check), see("value", value), see("query", query), see("query_all", query_all), see("open", open);
         if (opened.refusal)
             return 2;
     }

@@ -17,6 +17,8 @@
 --   summed o α       == the sum of the signs over the points of o
 --   unlimited o      == s is outside 1 .. 8, or n is above 64
 --   ownNumber m      == by what an opened card with the number m is refused: by m, but by 3 where m is neither 0 nor a card's
+--   ownRefusal o     == the number that refuses the opened card o whatever the product is, or 0: its own, then 3 where s or n is outside
+--                       its limits
 --   refusedBy o α    == the number that refuses the opened card o or the product α, or 0: its own, then 3 where s or n is outside its
 --                       limits, then 13 for the product. No card opens to a number of none or outside the limits: an opened card may hold
 --                       anything
@@ -98,6 +100,9 @@ unlimited o = ltb (o .s) 1 || (ltb mostPolynomials (o .s) || ltb mostPoints (o .
 
 abbrev pub ownNumber : ℕ → ℕ
 ownNumber m = unless m (λ k. cond (isAmong k cardNumbers) k wrongCount) 0
+
+unfoldable pub ownRefusal : opened-card.Opened → ℕ
+ownRefusal o = ownNumber (o .refusal) ▸ wrongCount when unlimited o
 
 unfoldable pub refusedBy : opened-card.Opened → ℕ → ℕ
 refusedBy o α =

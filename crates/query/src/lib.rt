@@ -1,8 +1,9 @@
 // Tarski queries on a card (document 01, "Patterns and products"; document 02, wish 4): at how many of the card's points a product is positive, negative
 // and 0. The number that the panel shows is the first less the second (`sign_counts::panel_number`).
 //
-// A card is opened once, and then answers any number of products with no polynomial evaluated again. No public call has a condition: any bytes, any
-// product number and any opened card have an answer, and what is lent stays as it was.
+// A card is opened once, and then answers any number of products with no polynomial evaluated again. `open`, `ask` and `query` have no condition: any
+// bytes, any product number and any opened card have an answer, and what is lent stays as it was. `refused` and `count` are the two parts of `ask`, for
+// lists of products (`query_list`): `count` is for a product that is there, on a card that is not refused, which its callers' proofs show.
 ghost use mathlib.Core.Path.{_≡_};
 ghost use mathlib.Core.Bool.{cond};
 ghost use Prim.Native.Nat.{_-_, _^_, _≤_, _<_};
@@ -13,7 +14,7 @@ ghost use Rattle.refusals.specs.Limits.{mostPolynomials, mostPoints};
 ghost use Rattle.layout.specs.Format.{polynomials, pointCount, pointsAt};
 ghost use Rattle.layout.specs.Contents.{contentsOf};
 ghost use Rattle.card.specs.Sound.{Sound};
-ghost use Rattle.query.specs.Opened.{signWord, openedSound, opened, countsOn, openedAnswer};
+ghost use Rattle.query.specs.Opened.{signWord, openedSound, opened, countsOn, ownRefusal, openedAnswer};
 ghost use Rattle.query.specs.Query.{queryAnswer};
 use card::Card;
 use refusals::MOST_POINTS;
@@ -164,7 +165,7 @@ fn counts_by(n: usize, left: u64, odd: u64) -> SignCounts
 }
 
 // The three counts of the product a over the points of an opened card: all points at once, polynomial by polynomial, the last one first.
-fn count(card: Opened, a: u16) -> SignCounts
+pub fn count(card: Opened, a: u16) -> SignCounts
     requires { ⌜ (card .s ≤ mostPolynomials) × (card .n ≤ mostPoints) × (a < 3 ^ card .s) ⌝ }
     ensures { λ r. ⌜ r ≡ countsOn card a ⌝ }
 {
@@ -183,25 +184,35 @@ fn count(card: Opened, a: u16) -> SignCounts
     counts_by(card.n, left, odd)
 }
 
-// The query of a product on an opened card: its three counts. The card's own number comes first, then 13 for a product number above 3^s − 1. An opened
-// card that `open` could not have left, by its number, s or n, gets 3.
-pub fn ask(card: Opened, a: Product) -> Queried
-    ensures { λ r. ⌜ r ≡ openedAnswer card (a .0) ⌝ }
+// The number that refuses an opened card whatever the product is, or 0: its own, and 3 for a card that `open` could not have left, by its number, s or n.
+pub fn refused(card: Opened) -> u16
+    ensures { λ r. ⌜ r ≡ ownRefusal card ⌝ }
 {
     if card.refusal != NONE {
         if refusals::is_card_number(card.refusal) {
-            return Queried::Refused(card.refusal);
+            return card.refusal;
         }
-        return Queried::Refused(WRONG_COUNT);
+        return WRONG_COUNT;
     }
     if card.s < 1 {
-        return Queried::Refused(WRONG_COUNT);
+        return WRONG_COUNT;
     }
     if MOST_POLYNOMIALS < card.s {
-        return Queried::Refused(WRONG_COUNT);
+        return WRONG_COUNT;
     }
     if MOST_POINTS < card.n {
-        return Queried::Refused(WRONG_COUNT);
+        return WRONG_COUNT;
+    }
+    NONE
+}
+
+// The query of a product on an opened card: its three counts. The number that refuses the card comes first, then 13 for a product number above 3^s − 1.
+pub fn ask(card: Opened, a: Product) -> Queried
+    ensures { λ r. ⌜ r ≡ openedAnswer card (a .0) ⌝ }
+{
+    let refusal = refused(card);
+    if refusal != NONE {
+        return Queried::Refused(refusal);
     }
     if bound(card.s) <= a.0 {
         return Queried::Refused(WRONG_PRODUCT);

@@ -4,3 +4,4 @@ pub mod DemandTwo
 pub mod DemandThree
 pub mod DemandOne
 pub mod Written
+pub mod Numbered

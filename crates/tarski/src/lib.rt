@@ -4,6 +4,7 @@ ghost use mathlib.Core.Path.{_≡_};
 ghost use Rattle.card.specs.Answers.{reading, valueAnswer};
 ghost use Rattle.query.specs.Query.{queryAnswer};
 ghost use Rattle.adapted_list.specs.Listing.{listOf};
+ghost use Rattle.query_list.specs.Listing.{cardListing, openedListing};
 ghost use Rattle.solver.specs.Solving.{solveOf};
 ghost use Rattle.query.specs.Opened.{opened, openedAnswer as askedOf};
 ghost use Rattle.runs.specs.Run.{fetchOf, copyOf};
@@ -11,6 +12,7 @@ ghost use Rattle.determination.specs.Record.{stateOf, stepOf};
 ghost use Rattle.card_writer.specs.Writing.{writing};
 ghost use Rattle.card_draw.specs.Drawn.{drawing};
 ghost use Rattle.tarski.specs.Written.{writtenOf};
+ghost use Rattle.tarski.specs.Numbered.{flatNumberedOf, flatListing};
 ghost use Rattle.tarski.specs.Flat.{cardOf, valueOf, flatCountsOf, refusalOf, listRefusalOf, flatStepOf, AnswerGivesFlat, StartGivesFlat, rowOf, leftOf};
 use adapted_list::Listed;
 use adapted_list::adapted_list;
@@ -28,6 +30,7 @@ use determination::fetch_row;
 use determination::start;
 use query::Opened;
 use query::Queried;
+use query_list::Numbered;
 use refusals::NONE;
 use sign_counts::panel_number;
 use signs::Product;
@@ -55,6 +58,13 @@ pub struct FlatCounts {
     pub positive: u16,
     pub negative: u16,
     pub zero: u16,
+    pub refusal: u16,
+}
+
+// How a list of products is answered: 0 where the numbers are written, else the number that refuses, for a bad product with its position.
+#[repr(C)]
+pub struct FlatNumbered {
+    pub position: usize,
     pub refusal: u16,
 }
 
@@ -192,6 +202,49 @@ pub extern "C" fn tarski_ask(card: &Opened, product: u16) -> FlatCounts
     ensures { λ r. ⌜ r ≡ flatCountsOf (askedOf (now (card .entry)) product) ⌝ }
 {
     counts_on(*card, product)
+}
+
+// What a call on a list of products answers, as plain numbers.
+fn flat_numbered(answer: Numbered) -> FlatNumbered
+    ensures { λ r. ⌜ r ≡ flatNumberedOf answer ⌝ }
+{
+    match answer {
+        Numbered::Written => FlatNumbered {
+            position: 0,
+            refusal: NONE,
+        },
+        Numbered::Refused(k) => FlatNumbered {
+            position: 0,
+            refusal: k,
+        },
+        Numbered::RefusedAt { number, position } => FlatNumbered {
+            position: position,
+            refusal: number,
+        },
+    }
+}
+
+// Writes to out the panel numbers of the products on a card, in the list's order.
+#[no_mangle]
+pub extern "C" fn tarski_query_all(card: &[u8], products: &[u16], out: &mut [i64]) -> FlatNumbered
+    ensures { λ r. ⌜ (r, now (out .exit)) ≡ flatListing (cardListing (now (card .entry)) (now (products .entry)) (now (out .entry))) ⌝ }
+{
+    flat_numbered(query_list::query_all(card, products, out))
+}
+
+// The same on an opened card.
+fn numbers_on(card: Opened, products: &[u16], out: &mut [i64]) -> FlatNumbered
+    ensures { λ r. ⌜ (r, now (out .exit)) ≡ flatListing (openedListing card (now (products .entry)) (now (out .entry))) ⌝ }
+{
+    flat_numbered(query_list::ask_all(card, products, out))
+}
+
+// The same on a lent one.
+#[no_mangle]
+pub extern "C" fn tarski_ask_all(card: &Opened, products: &[u16], out: &mut [i64]) -> FlatNumbered
+    ensures { λ r. ⌜ (r, now (out .exit)) ≡ flatListing (openedListing (now (card .entry)) (now (products .entry)) (now (out .entry))) ⌝ }
+{
+    numbers_on(*card, products, out)
 }
 
 // ---- cards written and drawn

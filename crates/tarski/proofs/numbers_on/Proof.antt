@@ -1,0 +1,15 @@
+-- `tarski::numbers_on` meets its contract.
+use mathlib.Core.Path.{ap, _∙_}
+use borrow.Author.Needs.{needs}
+use Rattle.tarski.specs.declared.FlatNumbered.{FlatNumbered}
+use Rattle.tarski.specs.Numbered.{flatListing}
+use Rattle.tarski.proofs.numbers_on.Statement.{statement}
+use Rattle.tarski.proofs.numbers_on.Tie as tie
+
+returns : tie.Need-returns
+returns c =
+    ap (λ (t : FlatNumbered). (t, c .before .before .ask-all .last .1 .1 .0)) (c .flat-numbered .ensures)
+    ∙ ap flatListing (c .before .before .ask-all .ensures)
+
+pub numbers-on-spec : {M : Type 1} → statement M
+numbers-on-spec = tie.close (tie.spec (λ c κs. search needs) (λ c κs. search needs) (λ c. search needs) returns)
