@@ -11,6 +11,7 @@ use std::hint::black_box;
 use std::time::Instant;
 
 const HEAVIEST: &[u8] = include_bytes!("../examples/heaviest-line.card");
+const HEAVIEST_PLANE: &[u8] = include_bytes!("../examples/heaviest-plane.card");
 const ORACLE: &str = include_str!("oracle-593.txt");
 
 #[inline(never)]
@@ -34,6 +35,44 @@ fn longest() -> Vec<u8> {
     card.extend((0..64).map(|x: i8| (x - 32) as u8));
     assert_eq!(card.len(), 318);
     card
+}
+
+/// The longest card of points in the plane: 8 polynomials of 9 terms and 64 points.
+fn longest_plane() -> Vec<u8> {
+    let mut card = vec![2, 8, 64, 0];
+    for j in 0..9u16 {
+        card.extend((22 + 55 * j).to_be_bytes());
+    }
+    for j in 0..8i32 {
+        card.push(9);
+        for k in 0..9i32 {
+            card.extend([k as u8 / 3, k as u8 % 3]);
+            card.extend((1000 * (k - 3) * (j + 1) + 1).to_be_bytes());
+        }
+    }
+    card.extend((0..64).flat_map(|k: i8| [(k / 8 - 4) as u8, (k % 8 - 4) as u8]));
+    assert_eq!(card.len(), 590);
+    card
+}
+
+/// A card from its bytes to its rows, by the proved library and in plain Rust: so many questions.
+fn through(card: &[u8], asked: usize) {
+    let opened = tarski::open(card).unwrap();
+    let (mut run, mut step) = tarski::Run::start(opened.polynomials());
+    while let tarski::Step::Ask(product) = step {
+        step = run.answer(opened.ask(product).unwrap().number);
+    }
+    assert_eq!(run.asked(), asked);
+}
+
+fn through_plain(card: &[u8], asked: usize) {
+    let opened = plain::open(card).ok().unwrap();
+    let mut run = plain::Run::start(opened.s);
+    let mut product = 0;
+    while let plain::Step::Ask(next) = run.answer(plain::ask(&opened, product).unwrap().number) {
+        product = next;
+    }
+    assert_eq!(run.asked, asked);
 }
 
 fn next(state: &mut u64) -> u64 {
@@ -103,12 +142,15 @@ fn main() {
         None => ORACLE.lines().map(|l| l.parse().unwrap()).collect(),
     };
     let card = longest();
+    let plane = longest_plane();
     let products = sheet();
     let list: Vec<tarski::Product> = products.iter().map(|&a| tarski::Product(a)).collect();
     let mut numbers = [0; 593];
     let mut work: Box<dyn FnMut()> = match (words[1].as_str(), proved) {
         ("check", true) => Box::new(|| assert_eq!(tarski::check(black_box(&card)), Ok((8, 64)))),
         ("check", false) => Box::new(|| assert_eq!(plain::check(black_box(&card)), Ok((8, 64)))),
+        ("check-plane", true) => Box::new(|| assert_eq!(tarski::check(black_box(&plane)), Ok((8, 64)))),
+        ("check-plane", false) => Box::new(|| assert_eq!(plain::check(black_box(&plane)), Ok((8, 64)))),
         ("query", true) => {
             let opened = signs(&opened(s, &oracle));
             Box::new(move || assert!(opened.ask(black_box(tarski::Product(4373))).is_ok()))
@@ -157,25 +199,14 @@ fn main() {
                 assert_eq!(run.rows, oracle.len());
             })
         }
-        ("card", true) => Box::new(|| {
-            let opened = tarski::open(black_box(HEAVIEST)).unwrap();
-            let (mut run, mut step) = tarski::Run::start(opened.polynomials());
-            while let tarski::Step::Ask(product) = step {
-                step = run.answer(opened.ask(product).unwrap().number);
-            }
-            assert_eq!(run.asked(), 463);
-        }),
-        ("card", false) => Box::new(|| {
-            let opened = plain::open(black_box(HEAVIEST)).ok().unwrap();
-            let mut run = plain::Run::start(opened.s);
-            let mut product = 0;
-            while let plain::Step::Ask(next) = run.answer(plain::ask(&opened, product).unwrap().number) {
-                product = next;
-            }
-            assert_eq!(run.asked, 463);
-        }),
+        ("card", true) => Box::new(|| through(black_box(HEAVIEST), 463)),
+        ("card", false) => Box::new(|| through_plain(black_box(HEAVIEST), 463)),
+        ("card-plane", true) => Box::new(|| through(black_box(HEAVIEST_PLANE), 593)),
+        ("card-plane", false) => Box::new(|| through_plain(black_box(HEAVIEST_PLANE), 593)),
         ("open", true) => Box::new(|| assert!(tarski::open(black_box(&card)).is_ok())),
         ("open", false) => Box::new(|| assert!(plain::open(black_box(&card)).is_ok())),
+        ("open-plane", true) => Box::new(|| assert!(tarski::open(black_box(&plane)).is_ok())),
+        ("open-plane", false) => Box::new(|| assert!(plain::open(black_box(&plane)).is_ok())),
         ("queries", true) => {
             let opened = tarski::open(&card).unwrap();
             Box::new(move || {

@@ -13,12 +13,65 @@ fn coefficient(card: &[u8], at: usize) -> i64 {
     i32::from_be_bytes([card[at], card[at + 1], card[at + 2], card[at + 3]]) as i64
 }
 
+fn too_large(c: i64) -> bool {
+    !(-1_000_000..=1_000_000).contains(&c)
+}
+
+/// Where the body of a polynomial in X that begins at a place ends.
+fn line_body(card: &[u8], at: usize) -> Result<usize, u16> {
+    let d = card[at] as usize;
+    if d > 6 {
+        return Err(16);
+    }
+    let end = at + 1 + 4 * (d + 1);
+    if card.len() < end {
+        return Err(1);
+    }
+    let mut top = 0;
+    for c in card[at + 1..end].chunks_exact(4) {
+        top = coefficient(c, 0);
+        if too_large(top) {
+            return Err(5);
+        }
+    }
+    if d > 0 && top == 0 {
+        return Err(17);
+    }
+    Ok(end)
+}
+
+/// The same of a polynomial in X and Y.
+fn plane_body(card: &[u8], at: usize) -> Result<usize, u16> {
+    let t = card[at] as usize;
+    if t > 9 {
+        return Err(18);
+    }
+    let end = at + 1 + 6 * t;
+    if card.len() < end {
+        return Err(1);
+    }
+    let terms = || card[at + 1..end].chunks_exact(6);
+    let mut least = 0;
+    for term in terms() {
+        let (a, b) = (term[0] as usize, term[1] as usize);
+        let place = 256 * a + b;
+        if a + b > 6 || place < least || coefficient(term, 2) == 0 {
+            return Err(18);
+        }
+        least = place + 1;
+    }
+    if terms().any(|term| too_large(coefficient(term, 2))) {
+        return Err(5);
+    }
+    Ok(end)
+}
+
 /// The number of polynomials and of points, or the number that refuses the card.
 pub fn check(card: &[u8]) -> Result<(usize, usize), u16> {
     if card.len() < 4 {
         return Err(1);
     }
-    if card[0] != 1 || card[3] != 0 {
+    if !(1..=2).contains(&card[0]) || card[3] != 0 {
         return Err(2);
     }
     let (s, n) = (card[1] as usize, card[2] as usize);
@@ -36,41 +89,42 @@ pub fn check(card: &[u8]) -> Result<(usize, usize), u16> {
         if card.len() <= at {
             return Err(1);
         }
-        let d = card[at] as usize;
-        if d > 6 {
-            return Err(16);
-        }
-        let end = at + 1 + 4 * (d + 1);
-        if card.len() < end {
-            return Err(1);
-        }
-        let mut top = 0;
-        for c in card[at + 1..end].chunks_exact(4) {
-            top = coefficient(c, 0);
-            if !(-1_000_000..=1_000_000).contains(&top) {
-                return Err(5);
-            }
-        }
-        if d > 0 && top == 0 {
-            return Err(17);
-        }
+        let end = if card[0] == 1 { line_body(card, at)? } else { plane_body(card, at)? };
         if offset(card, j + 1) != end {
             return Err(4);
         }
         at = end;
     }
-    if card.len() - at != n {
+    let points = &card[at..];
+    if points.len() != card[0] as usize * n {
         return Err(1);
     }
+    let sound = if card[0] == 1 { line_points(points) } else { plane_points(points) };
+    if sound { Ok((s, n)) } else { Err(6) }
+}
+
+fn line_points(points: &[u8]) -> bool {
     let mut last = -100;
-    for &x in &card[at..] {
+    for &x in points {
         let x = x as i8;
         if x < last || x > 100 {
-            return Err(6);
+            return false;
         }
         last = x;
     }
-    Ok((s, n))
+    true
+}
+
+fn plane_points(points: &[u8]) -> bool {
+    let mut last = (-100, -100);
+    for p in points.chunks_exact(2) {
+        let p = (p[0] as i8, p[1] as i8);
+        if p < last || p.0 > 100 || !(-100..=100).contains(&p.1) {
+            return false;
+        }
+        last = p;
+    }
+    true
 }
 
 // ---- queries
@@ -88,11 +142,22 @@ pub fn open(card: &[u8]) -> Result<Opened, u16> {
     let mut opened = Opened { s, n, positive: [0; 8], negative: [0; 8] };
     let points = &card[offset(card, s)..];
     for j in 0..s {
-        let at = offset(card, j);
-        let d = card[at] as usize;
+        let body = &card[offset(card, j)..offset(card, j + 1)];
+        let (positive, negative) = (&mut opened.positive[j], &mut opened.negative[j]);
+        let mut mark = |k: usize, v: i64| {
+            *positive |= ((v > 0) as u64) << k;
+            *negative |= ((v < 0) as u64) << k;
+        };
+        if card[0] == 2 {
+            for (k, p) in points.chunks_exact(2).enumerate() {
+                mark(k, plane_value(body, p[0] as i8 as i64, p[1] as i8 as i64));
+            }
+            continue;
+        }
+        let d = body[0] as usize;
         let mut c = [0i64; 7];
         for k in 0..=d {
-            c[k] = coefficient(card, at + 1 + 4 * k);
+            c[k] = coefficient(body, 1 + 4 * k);
         }
         for (k, &x) in points.iter().enumerate() {
             let x = x as i8 as i64;
@@ -100,11 +165,23 @@ pub fn open(card: &[u8]) -> Result<Opened, u16> {
             for &y in c[..=d].iter().rev() {
                 v = v * x + y;
             }
-            opened.positive[j] |= ((v > 0) as u64) << k;
-            opened.negative[j] |= ((v < 0) as u64) << k;
+            mark(k, v);
         }
     }
     Ok(opened)
+}
+
+fn powers(x: i64) -> [i64; 7] {
+    let mut p = [1; 7];
+    for i in 1..7 {
+        p[i] = x * p[i - 1];
+    }
+    p
+}
+
+fn plane_value(body: &[u8], x: i64, y: i64) -> i64 {
+    let (xs, ys) = (powers(x), powers(y));
+    body[1..].chunks_exact(6).map(|term| coefficient(term, 2) * xs[term[0] as usize] * ys[term[1] as usize]).sum()
 }
 
 const POWERS: [u16; 9] = [1, 3, 9, 27, 81, 243, 729, 2187, 6561];

@@ -1,6 +1,6 @@
 /* Sign determination from Tarski queries: the proved calls of libtarski.a, for C99 and later and for C++, on x86-64 Linux.
  *
- * Every call answers whatever numbers it is given: with a result, or with a refusal number from 1 to 17 (enum tarski_refusal); 0 means not refused.
+ * Every call answers whatever numbers it is given: with a result, or with a refusal number from 1 to 18 (enum tarski_refusal); 0 means not refused.
  * A refusal leaves lent memory as it was, but for 8, 9 and 10, which close the run's record. No call allocates, blocks or keeps a pointer.
  *
  * What the caller owes, since no call can test it:
@@ -22,12 +22,13 @@
 extern "C" {
 #endif
 
-/* The version of this header and of the library beside it. New in 0.5.0: tarski_query_all and tarski_ask_all. Since 0.4.0 tarski_query and tarski_ask
- * give struct tarski_counts, in which `number` is what they gave before as struct tarski_number. */
+/* The version of this header and of the library beside it. New in 0.6.0: cards of points in the plane, which every call on cards but tarski_value
+ * takes, tarski_value_at and the refusal 18; TARSKI_LONGEST_CARD has grown, and TARSKI_LONGEST_LINE_CARD is what it was. In 0.5.0: tarski_query_all and
+ * tarski_ask_all. Since 0.4.0 tarski_query and tarski_ask give struct tarski_counts, in which `number` is what they gave before as struct tarski_number. */
 #define TARSKI_VERSION_MAJOR 0
-#define TARSKI_VERSION_MINOR 5
+#define TARSKI_VERSION_MINOR 6
 #define TARSKI_VERSION_PATCH 0
-#define TARSKI_VERSION "0.5.0"
+#define TARSKI_VERSION "0.6.0"
 
 /* The most polynomials and the most points of a card, and the most rows of a run. */
 #define TARSKI_MOST_POLYNOMIALS 8
@@ -35,8 +36,10 @@ extern "C" {
 #define TARSKI_MOST_ROWS 64
 /* The most questions that a run asks. */
 #define TARSKI_MOST_QUESTIONS 593
-/* The longest card, in bytes; read one byte more from a stream, or a card that is too long looks sound. */
-#define TARSKI_LONGEST_CARD 318
+/* The longest card of either kind, in bytes; read one byte more from a stream, or a card that is too long looks sound. */
+#define TARSKI_LONGEST_CARD 590
+/* The longest card of points on the line: tarski_write and tarski_draw make no other, and need no more room. */
+#define TARSKI_LONGEST_LINE_CARD 318
 /* The most bytes of stack that a call uses, its return address included. */
 #define TARSKI_MOST_STACK 32768
 
@@ -60,7 +63,8 @@ enum tarski_refusal {
     TARSKI_PAST_LAST = 14,        /* there is no polynomial, or no row, at this position */
     TARSKI_TOO_SHORT = 15,        /* an output slice is too short */
     TARSKI_WRONG_DEGREE = 16,     /* a degree is above 6 */
-    TARSKI_ZERO_TOP = 17          /* the top coefficient is 0 though the degree is not */
+    TARSKI_ZERO_TOP = 17,         /* the top coefficient is 0 though the degree is not */
+    TARSKI_WRONG_TERMS = 18       /* of a polynomial in the plane: over 9 terms, powers above 6 together, terms that do not rise, or a coefficient of 0 */
 };
 
 /* What a refusal number means, in words. */
@@ -85,6 +89,8 @@ static inline const char *tarski_refusal_text(uint16_t refusal) {
     case TARSKI_TOO_SHORT: return "an output slice is too short";
     case TARSKI_WRONG_DEGREE: return "a degree is above 6";
     case TARSKI_ZERO_TOP: return "the top coefficient is 0 though the degree is not";
+    case TARSKI_WRONG_TERMS:
+        return "of a polynomial in the plane: over 9 terms, powers above 6 together, terms that do not rise, or a coefficient of 0";
     default: return "no such refusal";
     }
 }
@@ -101,7 +107,7 @@ struct tarski_product {
     uint16_t number;
 };
 
-/* ---- cards and queries */
+/* ---- cards and queries: points on the line and polynomials in X where byte 0 is 1, points in the plane and polynomials in X and Y where it is 2 */
 
 /* What a card says of itself; no polynomials and no points where it is refused. */
 struct tarski_card {
@@ -142,10 +148,14 @@ struct tarski_numbered {
     uint16_t refusal;
 };
 
-/* Checks a card: 1 to 6, 16 and 17 refuse it. */
+/* Checks a card of either kind: 1 to 6 and 16 to 18 refuse it. */
 struct tarski_card tarski_check(const uint8_t *card, size_t length);
-/* The value at x of the polynomial at a position from 0: the card's number, then 14. */
+/* The value at x of the polynomial at a position from 0, on a card of points on the line: 2 where byte 0 of 4 bytes or more is not 1, then the card's number,
+ * then 14. */
 struct tarski_number tarski_value(const uint8_t *card, size_t length, size_t position, int8_t x);
+/* The value at (x, y) of the polynomial at a position from 0, on a card of either kind; a polynomial in X has its value at x, whatever y is. Refused in this
+ * order: by the card's number, by 14, by 6 (x or y is outside -100 to 100). */
+struct tarski_number tarski_value_at(const uint8_t *card, size_t length, size_t position, int64_t x, int64_t y);
 /* The query of a product on a card, in one call: the card's number, then 13. */
 struct tarski_counts tarski_query(const uint8_t *card, size_t length, struct tarski_product product);
 /* Opens a card, to ask many products of it: its number stands in `refusal`. */
@@ -169,14 +179,14 @@ struct tarski_written {
     uint16_t refusal;
 };
 
-/* Writes to out the card of polynomials of these degrees, whose coefficients stand in one list, the first polynomial's first and its constant first, and
- * of these points. Refused in this order: by 3 (not 1 to 8 degrees, or over 64 points), 16 (a degree), 1 (not as many coefficients as the degrees say),
- * for each polynomial in turn 5 and 17, then 6 (a point), and 15 (out is shorter than the card). A refusal writes nothing; past the card out keeps what
- * lay there. */
+/* Writes to out the card, of points on the line, of polynomials of these degrees, whose coefficients stand in one list, the first polynomial's first and
+ * its constant first, and of these points. Refused in this order: by 3 (not 1 to 8 degrees, or over 64 points), 16 (a degree), 1 (not as many coefficients
+ * as the degrees say), for each polynomial in turn 5 and 17, then 6 (a point), and 15 (out is shorter than the card). A refusal writes nothing; past the
+ * card out keeps what lay there. */
 struct tarski_written tarski_write(const size_t *degrees, size_t degree_count, const int64_t *coefficients, size_t coefficient_count,
                                    const int64_t *points, size_t point_count, uint8_t *out, size_t out_length);
-/* Writes to out the card that a seed draws: so many polynomials, all of this degree, and so many points. Refused by 3, 16 and 15 in this order; a refusal
- * writes nothing, and past the card out keeps what lay there. TARSKI_LONGEST_CARD bytes have room for any. */
+/* Writes to out the card of points on the line that a seed draws: so many polynomials, all of this degree, and so many points. Refused by 3, 16 and 15 in
+ * this order; a refusal writes nothing, and past the card out keeps what lay there. TARSKI_LONGEST_LINE_CARD bytes have room for any. */
 struct tarski_written tarski_draw(uint32_t seed, size_t polynomials, size_t points, size_t degree, uint8_t *out, size_t out_length);
 
 /* ---- the solver */

@@ -4,17 +4,20 @@
 use std::fmt;
 use std::mem::{offset_of, size_of};
 
-/// The version of this module and of the library beside it. New in 0.5.0: `query_all` and `ask_all`. Since 0.4.0 a query gives its `Counts`, in which
-/// `number` is what it gave before.
-pub const VERSION: (u32, u32, u32) = (0, 5, 0);
+/// The version of this module and of the library beside it. New in 0.6.0: cards of points in the plane, which every call on cards but `value` takes,
+/// `value_at` and the refusal 18; `LONGEST_CARD` has grown, and `LONGEST_LINE_CARD` is what it was. In 0.5.0: `query_all` and `ask_all`. Since 0.4.0 a query
+/// gives its `Counts`, in which `number` is what it gave before.
+pub const VERSION: (u32, u32, u32) = (0, 6, 0);
 /// The most polynomials and the most points of a card, and the most rows of a run.
 pub const MOST_POLYNOMIALS: usize = 8;
 pub const MOST_POINTS: usize = 64;
 pub const MOST_ROWS: usize = 64;
 /// The most questions that a run asks.
 pub const MOST_QUESTIONS: usize = 593;
-/// The longest card, in bytes; read one byte more from a stream, or a card that is too long looks sound.
-pub const LONGEST_CARD: usize = 318;
+/// The longest card of either kind, in bytes; read one byte more from a stream, or a card that is too long looks sound.
+pub const LONGEST_CARD: usize = 590;
+/// The longest card of points on the line: `write` and `draw` make no other, and need no more room.
+pub const LONGEST_LINE_CARD: usize = 318;
 /// The most bytes of stack that a call uses.
 pub const MOST_STACK: usize = 32768;
 
@@ -28,7 +31,7 @@ pub struct Pattern(pub u16);
 #[derive(Clone, Copy, Debug, Default, PartialEq, Eq, PartialOrd, Ord, Hash)]
 pub struct Product(pub u16);
 
-/// Why a call is refused: a number from 1 to 17.
+/// Why a call is refused: a number from 1 to 18.
 #[repr(transparent)]
 #[derive(Clone, Copy, Debug, PartialEq, Eq, PartialOrd, Ord, Hash)]
 pub struct Refusal(pub u16);
@@ -51,6 +54,7 @@ impl Refusal {
     pub const TOO_SHORT: Refusal = Refusal(15);
     pub const WRONG_DEGREE: Refusal = Refusal(16);
     pub const ZERO_TOP: Refusal = Refusal(17);
+    pub const WRONG_TERMS: Refusal = Refusal(18);
 
     /// What the number means, in words.
     pub fn text(self) -> &'static str {
@@ -74,6 +78,9 @@ impl Refusal {
             Refusal::TOO_SHORT => "an output slice is too short",
             Refusal::WRONG_DEGREE => "a degree is above 6",
             Refusal::ZERO_TOP => "the top coefficient is 0 though the degree is not",
+            Refusal::WRONG_TERMS => {
+                "of a polynomial in the plane: over 9 terms, powers above 6 together, terms that do not rise, or a coefficient of 0"
+            }
             _ => "no such refusal",
         }
     }
@@ -216,6 +223,7 @@ mod c {
     extern "C" {
         pub fn tarski_check(card: *const u8, length: usize) -> Card;
         pub fn tarski_value(card: *const u8, length: usize, position: usize, x: i8) -> Number;
+        pub fn tarski_value_at(card: *const u8, length: usize, position: usize, x: i64, y: i64) -> Number;
         pub fn tarski_query(card: *const u8, length: usize, product: Product) -> Counts;
         pub fn tarski_open(card: *const u8, length: usize) -> Opened;
         pub fn tarski_ask(card: *const Opened, product: Product) -> Counts;
@@ -282,15 +290,22 @@ fn step(step: c::Step) -> Step {
     }
 }
 
-/// The number of polynomials and of points of a card.
+/// The number of polynomials and of points of a card of either kind.
 pub fn check(card: &[u8]) -> Result<(usize, usize), Refusal> {
     let said = unsafe { c::tarski_check(card.as_ptr(), card.len()) };
     unless(said.refusal, (said.polynomials, said.points))
 }
 
-/// The value at x of the polynomial at a position from 0.
+/// The value at x of the polynomial at a position from 0, on a card of points on the line; any other is refused by 2.
 pub fn value(card: &[u8], position: usize, x: i8) -> Result<i64, Refusal> {
     let answer = unsafe { c::tarski_value(card.as_ptr(), card.len(), position, x) };
+    unless(answer.refusal, answer.number)
+}
+
+/// The value at (x, y) of the polynomial at a position from 0, on a card of either kind; a polynomial in X has its value at x, whatever y is. Refused by the
+/// card, by 14, or by 6 where x or y is outside −100 to 100, in this order.
+pub fn value_at(card: &[u8], position: usize, x: i64, y: i64) -> Result<i64, Refusal> {
+    let answer = unsafe { c::tarski_value_at(card.as_ptr(), card.len(), position, x, y) };
     unless(answer.refusal, answer.number)
 }
 
@@ -335,8 +350,8 @@ impl Opened {
     }
 }
 
-/// Writes to the front of out the card of polynomials of these degrees, whose coefficients stand in one list, P1 first and constant first, and of these
-/// points; its length.
+/// Writes to the front of out the card, of points on the line, of polynomials of these degrees, whose coefficients stand in one list, P1 first and constant
+/// first, and of these points; its length.
 pub fn write(degrees: &[usize], coefficients: &[i64], points: &[i64], out: &mut [u8]) -> Result<usize, Refusal> {
     let written = unsafe {
         c::tarski_write(
@@ -353,7 +368,7 @@ pub fn write(degrees: &[usize], coefficients: &[i64], points: &[i64], out: &mut 
     unless(written.refusal, written.length)
 }
 
-/// Writes to the front of out the card that a seed draws: so many polynomials of this degree, and so many points; its length.
+/// Writes to the front of out the card of points on the line that a seed draws: so many polynomials of this degree, and so many points; its length.
 pub fn draw(seed: u32, polynomials: usize, points: usize, degree: usize, out: &mut [u8]) -> Result<usize, Refusal> {
     let written = unsafe { c::tarski_draw(seed, polynomials, points, degree, out.as_mut_ptr(), out.len()) };
     unless(written.refusal, written.length)

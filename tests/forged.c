@@ -44,7 +44,7 @@ static int sign_at(const struct tarski_opened *card, size_t j, size_t k) {
 }
 
 static unsigned opened_refusal(const struct tarski_opened *card, unsigned product) {
-    if ((card->refusal >= 1 && card->refusal <= 6) || card->refusal == 16 || card->refusal == 17)
+    if ((card->refusal >= 1 && card->refusal <= 6) || (card->refusal >= 16 && card->refusal <= 18))
         return card->refusal;
     if (card->refusal || card->polynomials < 1 || card->polynomials > 8 || card->points > 64)
         return 3;
@@ -96,8 +96,8 @@ static void forged_list(const struct tarski_opened *card) {
 
 static unsigned forged_card(void) {
     struct tarski_opened card;
-    static const uint16_t numbers[] = {0, 0, 0, 0, 1, 3, 5, 6, 7, 9, 13, 15, 16, 17, 18, 65535};
-    card.refusal = numbers[draw(16)];
+    static const uint16_t numbers[] = {0, 0, 0, 0, 1, 3, 5, 6, 7, 9, 13, 15, 16, 17, 18, 19, 65535};
+    card.refusal = numbers[draw(17)];
     card.polynomials = draw(8) ? 1 + draw(8) : draw(2) ? 0 : 9 + draw(1000000);
     card.points = draw(8) ? draw(65) : 65 + draw(1000);
     for (size_t j = 0; j < 8; j++) {
@@ -451,7 +451,7 @@ static int check_answer(struct tarski_run *run, int64_t answer) {
 int main(int words, char **word) {
     unsigned long rounds = words > 1 ? strtoul(word[1], NULL, 10) : 200000;
     state = words > 2 ? strtoull(word[2], NULL, 10) | 1 : 20261115;
-    unsigned long cards[18] = {0}, answers[CASES] = {0}, served = 0;
+    unsigned long cards[19] = {0}, answers[CASES] = {0}, served = 0;
     int seen = 1;
     for (unsigned long k = 0; k < rounds; k++) {
         struct tarski_run run;
@@ -471,7 +471,7 @@ int main(int words, char **word) {
         seen = seen && lists[k];
     for (size_t k = 0; k < CASES; k++)
         seen = seen && answers[k];
-    if (!seen || !cards[0] || !cards[1] || !cards[3] || !cards[6] || !cards[13] || !cards[16] || !cards[17] || !served) {
+    if (!seen || !cards[0] || !cards[1] || !cards[3] || !cards[6] || !cards[13] || !cards[16] || !cards[17] || !cards[18] || !served) {
         printf("forged: a case never occurred\n");
         return 1;
     }

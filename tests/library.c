@@ -1,5 +1,6 @@
 /* Calls every function of include/tarski.h with results that are known, and each refusal number once; C99, C11 and C++. With the word `texts` it
- * prints what each number up to 99 means. Its argument else is the card of example 3.2.13 (X, X + 1, X - 2 at -3, 1, 3). Says what is wrong, and fails. */
+ * prints what each number up to 99 means. Its arguments else are the cards of example 3.2.13 (X, X + 1, X - 2 at -3, 1, 3) and of the circle (X^2 + Y^2 - 25,
+ * X - Y at (-3, 4), (0, 0), (3, 4), (4, 3), (6, 1)). Says what is wrong, and fails. */
 #include <stdio.h>
 #include <string.h>
 
@@ -16,12 +17,13 @@ static int wrong = 0, tried = 0;
         }                                                                                                                                          \
     } while (0)
 
-static uint8_t card[TARSKI_LONGEST_CARD + 1];
-static size_t length;
+static uint8_t card[TARSKI_LONGEST_CARD + 1], plane[TARSKI_LONGEST_CARD + 1];
+static size_t length, plane_length;
 
 /* The types of the calls, said again: a declaration with parameters in another order does not compile here. */
 static struct tarski_card (*check)(const uint8_t *, size_t) = tarski_check;
 static struct tarski_number (*volatile value_of)(const uint8_t *, size_t, size_t, int8_t) = tarski_value;
+static struct tarski_number (*volatile value_at)(const uint8_t *, size_t, size_t, int64_t, int64_t) = tarski_value_at;
 static struct tarski_counts (*volatile query_of)(const uint8_t *, size_t, struct tarski_product) = tarski_query;
 static struct tarski_opened (*open_card)(const uint8_t *, size_t) = tarski_open;
 static struct tarski_counts (*volatile ask_of)(const struct tarski_opened *, struct tarski_product) = tarski_ask;
@@ -39,7 +41,7 @@ static struct tarski_copied (*rows_of)(const struct tarski_run *, struct tarski_
 
 static void types(void) {
     SEE(check && value_of && query_of && open_card && ask_of && adapted && solve && start && answer && asked_by && row_of && rows_of);
-    SEE(write_card && draw_card && query_list && ask_list);
+    SEE(write_card && draw_card && query_list && ask_list && value_at);
 }
 
 static struct tarski_product product(unsigned number) {
@@ -62,7 +64,7 @@ static void cards(void) {
     SEE(said.refusal == TARSKI_NOT_REFUSED && said.polynomials == 3 && said.points == 3);
     SEE(tarski_check(card, length - 1).refusal == TARSKI_WRONG_LENGTH);
     SEE(tarski_check(card, length + 1).refusal == TARSKI_WRONG_LENGTH);
-    SEE(tarski_check(with(0, 2), length).refusal == TARSKI_WRONG_BYTE);
+    SEE(tarski_check(with(0, 3), length).refusal == TARSKI_WRONG_BYTE && tarski_check(with(0, 0), length).refusal == TARSKI_WRONG_BYTE);
     SEE(tarski_check(with(1, 9), length).refusal == TARSKI_WRONG_COUNT);
     SEE(tarski_check(with(2, 65), length).refusal == TARSKI_WRONG_COUNT);
     SEE(tarski_check(with(4, 13), length).refusal == TARSKI_WRONG_OFFSET);
@@ -70,7 +72,7 @@ static void cards(void) {
     SEE(tarski_check(with(12, 7), length).refusal == TARSKI_WRONG_DEGREE && tarski_check(with(12, 7), 13).refusal == TARSKI_WRONG_DEGREE);
     SEE(tarski_check(with(20, 0), length).refusal == TARSKI_ZERO_TOP);
     SEE(tarski_check(with(length - 1, 101), length).refusal == TARSKI_WRONG_POINT);
-    said = tarski_check(with(0, 2), length);
+    said = tarski_check(with(3, 2), length);
     SEE(said.polynomials == 0 && said.points == 0);
 
     SEE(tarski_value(card, length, 0, -3).number == -3 && tarski_value(card, length, 0, -3).refusal == 0);
@@ -78,6 +80,87 @@ static void cards(void) {
     SEE(tarski_value(card, length, 2, -100).number == -102);
     SEE(tarski_value(card, length, 3, 1).refusal == TARSKI_PAST_LAST && tarski_value(card, length, 3, 1).number == 0);
     SEE(tarski_value(card, length - 1, 3, 1).refusal == TARSKI_WRONG_LENGTH);
+    SEE(tarski_value_at(card, length, 2, -100, 100).number == -102 && tarski_value_at(card, length, 2, -100, 100).refusal == 0);
+    SEE(tarski_value_at(card, length, 1, 5, -7).number == 6 && tarski_value_at(card, length, 0, 0, 1).number == 0);
+    SEE(tarski_value_at(card, length, 0, 101, 0).refusal == TARSKI_WRONG_POINT && tarski_value_at(card, length, 0, 0, -101).refusal == TARSKI_WRONG_POINT);
+    SEE(tarski_value_at(card, length, 3, 101, 0).refusal == TARSKI_PAST_LAST && tarski_value_at(card, length - 1, 3, 101, 0).refusal == TARSKI_WRONG_LENGTH);
+}
+
+/* The card of the circle with the byte at a place changed. */
+static const uint8_t *plane_with(size_t place, unsigned byte) {
+    memcpy(changed, plane, sizeof changed);
+    changed[place] = (uint8_t)byte;
+    return changed;
+}
+
+static unsigned plane_refusal(size_t place, unsigned byte) {
+    return tarski_check(plane_with(place, byte), plane_length).refusal;
+}
+
+/* Its first body begins at byte 10, with terms at 11, 17 and 23, the second at 29, the points at 42. */
+static void plane_cards(void) {
+    static const int64_t x[5] = {-3, 0, 3, 4, 6}, y[5] = {4, 0, 4, 3, 1}, far[4] = {INT64_MIN, INT64_MAX, -101, 101};
+    struct tarski_card said = tarski_check(plane, plane_length);
+    struct tarski_opened opened;
+    struct tarski_number none;
+    SEE(said.refusal == 0 && said.polynomials == 2 && said.points == 5);
+    SEE(tarski_check(plane, plane_length - 1).refusal == TARSKI_WRONG_LENGTH && tarski_check(plane, plane_length + 1).refusal == TARSKI_WRONG_LENGTH);
+    SEE(plane_refusal(0, 3) == TARSKI_WRONG_BYTE && plane_refusal(3, 1) == TARSKI_WRONG_BYTE && plane_refusal(0, 1) == TARSKI_WRONG_COEFFICIENT);
+    SEE(plane_refusal(1, 9) == TARSKI_WRONG_COUNT && plane_refusal(2, 65) == TARSKI_WRONG_COUNT && plane_refusal(2, 10) == TARSKI_WRONG_LENGTH);
+    SEE(plane_refusal(5, 11) == TARSKI_WRONG_OFFSET && plane_refusal(7, 30) == TARSKI_WRONG_OFFSET);
+    SEE(plane_refusal(10, 10) == TARSKI_WRONG_TERMS && tarski_check(plane_with(10, 10), 11).refusal == TARSKI_WRONG_TERMS);
+    SEE(plane_refusal(10, 9) == TARSKI_WRONG_LENGTH);                                             /* the body is cut short */
+    SEE(plane_refusal(24, 5) == TARSKI_WRONG_TERMS && plane_refusal(23, 7) == TARSKI_WRONG_TERMS); /* X^2 Y^5, X^7 */
+    SEE(plane_refusal(18, 0) == TARSKI_WRONG_TERMS && plane_refusal(11, 1) == TARSKI_WRONG_TERMS); /* a term twice, a term that falls */
+    SEE(plane_refusal(28, 0) == TARSKI_WRONG_TERMS && plane_refusal(25, 1) == TARSKI_WRONG_COEFFICIENT);
+    plane_with(13, 1), changed[28] = 0; /* a large coefficient, then one of 0 */
+    SEE(tarski_check(changed, plane_length).refusal == TARSKI_WRONG_TERMS && tarski_check(changed, 28).refusal == TARSKI_WRONG_LENGTH);
+    plane_with(23, 255), changed[24] = 1; /* 255 + 1 is not 0 */
+    SEE(tarski_check(changed, plane_length).refusal == TARSKI_WRONG_TERMS);
+    SEE(plane_refusal(43, 101) == TARSKI_WRONG_POINT && plane_refusal(42, 155) == TARSKI_WRONG_POINT);
+    SEE(plane_refusal(42, 0) == TARSKI_WRONG_POINT && plane_refusal(46, 255) == TARSKI_WRONG_POINT && plane_refusal(42, 156) == 0);
+    SEE(tarski_value(plane, plane_length, 0, 3).refusal == TARSKI_WRONG_BYTE && tarski_value(plane, 4, 9, 3).refusal == TARSKI_WRONG_BYTE);
+    SEE(tarski_value(plane, 3, 0, 3).refusal == TARSKI_WRONG_LENGTH && tarski_value(with(0, 0), length, 0, 3).refusal == TARSKI_WRONG_BYTE);
+    for (int k = 0; k < 5; k++) {
+        SEE(tarski_value_at(plane, plane_length, 0, x[k], y[k]).number == x[k] * x[k] + y[k] * y[k] - 25);
+        SEE(tarski_value_at(plane, plane_length, 1, x[k], y[k]).number == x[k] - y[k] && tarski_value_at(plane, plane_length, 1, x[k], y[k]).refusal == 0);
+    }
+    SEE(tarski_value_at(plane, plane_length, 1, -100, 100).number == -200 && tarski_value_at(plane, plane_length, 1, 100, -100).number == 200);
+    for (int k = 0; k < 4; k++) {
+        SEE(tarski_value_at(plane, plane_length, 0, far[k], 0).refusal == TARSKI_WRONG_POINT);
+        SEE(tarski_value_at(plane, plane_length, 1, 0, far[k]).refusal == TARSKI_WRONG_POINT);
+        SEE(tarski_value_at(plane, plane_length, 2, far[k], far[k]).refusal == TARSKI_PAST_LAST);
+        SEE(tarski_value_at(plane, plane_length - 1, 2, far[k], far[k]).refusal == TARSKI_WRONG_LENGTH);
+    }
+    none = tarski_value_at(plane_with(28, 0), plane_length, 0, 1, 1);
+    SEE(none.refusal == TARSKI_WRONG_TERMS && none.number == 0);
+    opened = tarski_open(plane, plane_length);
+    SEE(opened.refusal == 0 && opened.polynomials == 2 && opened.points == 5);
+    SEE(opened.positive[0] == 16 && opened.negative[0] == 2 && opened.positive[1] == 24 && opened.negative[1] == 5);
+    opened = tarski_open(plane_with(28, 0), plane_length);
+    SEE(opened.refusal == TARSKI_WRONG_TERMS && tarski_ask(&opened, product(0)).refusal == TARSKI_WRONG_TERMS);
+    SEE(tarski_query(plane_with(28, 0), plane_length, product(65535)).refusal == TARSKI_WRONG_TERMS);
+}
+
+/* The longest card: eight polynomials with the nine terms of powers 6 and of X^5 and X^4 Y, all coefficients 1,000,000, at (100, 100). */
+static void longest_card(void) {
+    static const uint8_t powers[9][2] = {{0, 6}, {1, 5}, {2, 4}, {3, 3}, {4, 1}, {4, 2}, {5, 0}, {5, 1}, {6, 0}};
+    static const uint8_t million[4] = {0, 15, 66, 64};
+    uint8_t made[TARSKI_LONGEST_CARD + 1] = {2, 8, 64, 0};
+    size_t at = 22;
+    for (size_t j = 0; j < 9; j++)
+        made[4 + 2 * j] = (uint8_t)((22 + 55 * j) / 256), made[5 + 2 * j] = (uint8_t)((22 + 55 * j) % 256);
+    for (size_t j = 0; j < 8; j++) {
+        made[at++] = 9;
+        for (size_t k = 0; k < 9; k++, at += 6)
+            memcpy(made + at, powers[k], 2), memcpy(made + at + 2, million, 4);
+    }
+    memset(made + at, 100, 129);
+    SEE(at + 128 == TARSKI_LONGEST_CARD && tarski_check(made, TARSKI_LONGEST_CARD).points == 64);
+    SEE(tarski_check(made, TARSKI_LONGEST_CARD + 1).refusal == TARSKI_WRONG_LENGTH);
+    SEE(tarski_value_at(made, TARSKI_LONGEST_CARD, 7, 100, 100).number == 7020000000000000000);
+    SEE(tarski_value_at(made, TARSKI_LONGEST_CARD, 7, -100, 100).number == 1000000000000000000);
+    SEE(tarski_query(made, TARSKI_LONGEST_CARD, product(6560)).number == 64);
 }
 
 /* At how many of the card's points a product has this sign, by the card's values. */
@@ -166,7 +249,7 @@ static void lists(void) {
 static void reasons(void) {
     static const size_t degree[2] = {1, 0};
     static const int64_t x[2] = {0, 1}, zero[1] = {0}, around[3] = {-1, 0, 1}, four[4] = {-100, 0, 0, 100};
-    uint8_t made[TARSKI_LONGEST_CARD];
+    uint8_t made[TARSKI_LONGEST_LINE_CARD];
     struct tarski_written written = tarski_write(degree, 1, x, 2, around, 3, made, sizeof made);
     struct tarski_counts got = tarski_query(made, written.length, product(1));
     SEE(got.refusal == 0 && got.number == 0 && got.positive == 1 && got.negative == 1 && got.zero == 1);
@@ -279,7 +362,7 @@ static void drawn(void) {
     made = tarski_draw(0, 1, 1, 0, buffer, sizeof buffer);
     SEE(made.refusal == 0 && made.length == 14 && memcmp(buffer, first, 14) == 0 && untouched(14));
     made = tarski_draw(UINT32_MAX, 8, 64, 6, buffer, sizeof buffer);
-    SEE(made.refusal == 0 && made.length == TARSKI_LONGEST_CARD && untouched(TARSKI_LONGEST_CARD));
+    SEE(made.refusal == 0 && made.length == TARSKI_LONGEST_LINE_CARD && untouched(TARSKI_LONGEST_LINE_CARD));
     SEE(tarski_check(buffer, made.length).polynomials == 8 && tarski_check(buffer, made.length).points == 64);
 }
 
@@ -359,6 +442,7 @@ static void nothing(void) {
     struct tarski_step step = tarski_start(&run, 1);
     SEE(tarski_check(NULL, 0).refusal == TARSKI_WRONG_LENGTH && tarski_open(NULL, 0).refusal == TARSKI_WRONG_LENGTH);
     SEE(tarski_query(NULL, 0, product(0)).refusal == TARSKI_WRONG_LENGTH && tarski_value(NULL, 0, 0, 0).refusal == TARSKI_WRONG_LENGTH);
+    SEE(tarski_value_at(NULL, 0, 0, 0, 0).refusal == TARSKI_WRONG_LENGTH);
     SEE(tarski_query_all(NULL, 0, NULL, 0, NULL, 0).refusal == TARSKI_WRONG_LENGTH && tarski_query_all(card, length, NULL, 0, NULL, 0).refusal == 0);
     SEE(tarski_write(NULL, 0, NULL, 0, NULL, 0, NULL, 0).refusal == TARSKI_WRONG_COUNT && tarski_draw(1, 1, 0, 0, NULL, 0).refusal == TARSKI_TOO_SHORT);
     SEE(tarski_adapted(1, NULL, 0, NULL, 0) == 0 && tarski_solve(1, NULL, 0, NULL, 0, NULL, 0) == 0);
@@ -366,25 +450,35 @@ static void nothing(void) {
     SEE(step.kind == TARSKI_DONE && tarski_rows(&run, NULL, 0, NULL, 0).refusal == 0 && tarski_rows(&run, NULL, 0, NULL, 0).rows == 0);
 }
 
+/* Reads a card, and gives its length; 0 where there is none. */
+static size_t given(const char *name, uint8_t *bytes) {
+    FILE *file = fopen(name, "rb");
+    size_t n = file ? fread(bytes, 1, TARSKI_LONGEST_CARD + 1, file) : 0;
+    if (file)
+        fclose(file);
+    return n;
+}
+
 int main(int count, char **words) {
-    FILE *file;
     if (count == 2 && strcmp(words[1], "texts") == 0) {
         for (uint16_t k = 0; k < 100; k++)
             printf("%u %s\n", (unsigned)k, tarski_refusal_text(k));
         return 0;
     }
-    file = count == 2 ? fopen(words[1], "rb") : NULL;
-    if (!file) {
-        puts("usage: library CARD | texts");
+    if (count != 3) {
+        puts("usage: library CARD CIRCLE | texts");
         return 2;
     }
-    length = fread(card, 1, sizeof card, file);
-    fclose(file);
-    SEE(length == 42);
-    SEE(strcmp(TARSKI_VERSION, "0.5.0") == 0 && TARSKI_VERSION_MAJOR == 0 && TARSKI_VERSION_MINOR == 5 && TARSKI_VERSION_PATCH == 0);
+    length = given(words[1], card);
+    plane_length = given(words[2], plane);
+    SEE(length == 42 && plane_length == 52);
+    SEE(strcmp(TARSKI_VERSION, "0.6.0") == 0 && TARSKI_VERSION_MAJOR == 0 && TARSKI_VERSION_MINOR == 6 && TARSKI_VERSION_PATCH == 0);
+    SEE(TARSKI_LONGEST_CARD == 590 && TARSKI_LONGEST_LINE_CARD == 318);
     if (!wrong) {
         types();
         cards();
+        plane_cards();
+        longest_card();
         queries();
         lists();
         reasons();

@@ -1,5 +1,6 @@
 // Calls every function of include/tarski.rs with results that are known, and sees each refusal once. With the word `texts` it prints what each number
-// up to 99 means. Its argument else is the card of example 3.2.13 (X, X + 1, X − 2 at −3, 1, 3).
+// up to 99 means. Its arguments else are the cards of example 3.2.13 (X, X + 1, X − 2 at −3, 1, 3) and of the circle (X² + Y² − 25, X − Y at (−3, 4),
+// (0, 0), (3, 4), (4, 3), (6, 1)).
 #[path = "../include/tarski.rs"]
 mod tarski;
 
@@ -16,7 +17,7 @@ fn cards(card: &[u8]) {
     assert_eq!(tarski::check(card), Ok((3, 3)));
     assert_eq!(tarski::check(&card[..last]), Err(Refusal::WRONG_LENGTH));
     assert_eq!(tarski::check(&[]), Err(Refusal::WRONG_LENGTH));
-    assert_eq!(tarski::check(&with(card, 0, 2)), Err(Refusal::WRONG_BYTE));
+    assert_eq!(tarski::check(&with(card, 0, 3)), Err(Refusal::WRONG_BYTE));
     assert_eq!(tarski::check(&with(card, 1, 9)), Err(Refusal::WRONG_COUNT));
     assert_eq!(tarski::check(&with(card, 4, 13)), Err(Refusal::WRONG_OFFSET));
     assert_eq!(tarski::check(&with(card, 13, 1)), Err(Refusal::WRONG_COEFFICIENT));
@@ -27,6 +28,8 @@ fn cards(card: &[u8]) {
     assert_eq!(tarski::value(card, 1, 5), Ok(6));
     assert_eq!(tarski::value(card, 2, -100), Ok(-102));
     assert_eq!(tarski::value(card, 3, 1), Err(Refusal::PAST_LAST));
+    assert_eq!(tarski::value_at(card, 2, -100, 7), Ok(-102));
+    assert_eq!(tarski::value_at(card, 2, 7, 101), Err(Refusal::WRONG_POINT));
     assert_eq!(tarski::query(card, Product(9)), Ok(Counts { number: -1, positive: 1, negative: 2, zero: 0 }));
     assert_eq!(tarski::query(card, Product(27)), Err(Refusal::WRONG_PRODUCT));
     let opened = tarski::open(card).unwrap();
@@ -42,6 +45,34 @@ fn cards(card: &[u8]) {
     let signs = Opened::of_signs(1, 4, [1, 0, 0, 0, 0, 0, 0, 0], [2, 0, 0, 0, 0, 0, 0, 0]);
     assert_eq!(signs.ask(Product(1)), Ok(Counts { number: 0, positive: 1, negative: 1, zero: 2 }));
     assert_eq!(signs.ask(Product(2)), Ok(Counts { number: 2, positive: 2, negative: 0, zero: 2 }));
+}
+
+fn plane_cards(card: &[u8]) {
+    let last = card.len() - 1;
+    assert_eq!(tarski::check(card), Ok((2, 5)));
+    assert_eq!(tarski::check(&card[..last]), Err(Refusal::WRONG_LENGTH));
+    assert_eq!(tarski::check(&with(card, 10, 10)), Err(Refusal::WRONG_TERMS));
+    assert_eq!(tarski::check(&with(card, 24, 5)), Err(Refusal::WRONG_TERMS));
+    assert_eq!(tarski::check(&with(card, 18, 0)), Err(Refusal::WRONG_TERMS));
+    assert_eq!(tarski::check(&with(&with(card, 13, 1), 28, 0)), Err(Refusal::WRONG_TERMS));
+    assert_eq!(tarski::check(&with(card, 13, 1)), Err(Refusal::WRONG_COEFFICIENT));
+    assert_eq!(tarski::check(&with(card, 46, 255)), Err(Refusal::WRONG_POINT));
+    assert_eq!(tarski::value(card, 0, 3), Err(Refusal::WRONG_BYTE));
+    assert_eq!(tarski::value_at(card, 0, 6, 1), Ok(12));
+    assert_eq!(tarski::value_at(card, 1, -100, 100), Ok(-200));
+    for far in [i64::MIN, -101, 101, i64::MAX] {
+        assert_eq!(tarski::value_at(card, 0, far, 0), Err(Refusal::WRONG_POINT));
+        assert_eq!(tarski::value_at(card, 1, 0, far), Err(Refusal::WRONG_POINT));
+        assert_eq!(tarski::value_at(card, 2, far, far), Err(Refusal::PAST_LAST));
+        assert_eq!(tarski::value_at(&card[..last], 2, far, far), Err(Refusal::WRONG_LENGTH));
+    }
+    assert_eq!(tarski::query(card, Product(1)), Ok(Counts { number: 0, positive: 1, negative: 1, zero: 3 }));
+    let (opened, mut numbers) = (tarski::open(card).unwrap(), [4711; 9]);
+    assert_eq!((opened.polynomials(), opened.points()), (2, 5));
+    let products: Vec<Product> = (0..9).map(Product).collect();
+    assert_eq!(opened.ask_all(&products, &mut numbers), Ok(()));
+    assert_eq!(numbers, [5, 0, 2, 0, 1, 1, 4, 1, 1]);
+    assert_eq!(tarski::open(&with(card, 28, 0)).err(), Some(Refusal::WRONG_TERMS));
 }
 
 fn lists(card: &[u8]) {
@@ -115,7 +146,7 @@ fn written(card: &[u8]) {
     assert_eq!(tarski::draw(0, 1, 1, 0, &mut out), Ok(14));
     assert_eq!(out[..14], [1, 1, 1, 0, 0, 8, 0, 13, 0, 0xff, 0xff, 0xff, 0xfb, 0x42]);
     assert_eq!(out[14..42], card[14..]);
-    assert_eq!(tarski::draw(u32::MAX, 8, 64, 6, &mut out), Ok(318));
+    assert_eq!(tarski::draw(u32::MAX, 8, 64, 6, &mut out), Ok(tarski::LONGEST_LINE_CARD));
     assert_eq!((tarski::check(&out[..318]), out[318]), (Ok((8, 64)), 90));
 }
 
@@ -147,7 +178,7 @@ fn runs(card: &[u8]) {
 }
 
 fn main() {
-    let word = std::env::args().nth(1).expect("usage: library CARD | texts");
+    let word = std::env::args().nth(1).expect("usage: library CARD CIRCLE | texts");
     if word == "texts" {
         for number in 0..100 {
             println!("{number} {}", Refusal(number).text());
@@ -155,12 +186,15 @@ fn main() {
         return;
     }
     let card = std::fs::read(word).unwrap();
-    assert_eq!(card.len(), 42);
-    assert_eq!(tarski::VERSION, (0, 5, 0));
+    let circle = std::fs::read(std::env::args().nth(2).expect("usage: library CARD CIRCLE | texts")).unwrap();
+    assert_eq!((card.len(), circle.len()), (42, 52));
+    assert_eq!(tarski::VERSION, (0, 6, 0));
     assert_eq!(Refusal(3).to_string(), "refused by 3: s is not 1 to 8, or n is above 64");
     let limits = [tarski::MOST_POLYNOMIALS, tarski::MOST_POINTS, tarski::MOST_ROWS, tarski::MOST_QUESTIONS, tarski::LONGEST_CARD, tarski::MOST_STACK];
-    assert_eq!(limits, [8, 64, 64, 593, 318, 32768]);
+    assert_eq!(limits, [8, 64, 64, 593, 590, 32768]);
+    assert_eq!(tarski::LONGEST_LINE_CARD, 318);
     cards(&card);
+    plane_cards(&circle);
     lists(&card);
     solver(&card);
     written(&card);

@@ -62,6 +62,7 @@ static uint64_t sum; /* so that no result is dropped */
 static void nothing(void) { sum++; }
 static void check(void) { sum += tarski_check(card, length).points; }
 static void value(void) { sum += (uint64_t)tarski_value(card, length, 0, 100).number; }
+static void value_at(void) { sum += (uint64_t)tarski_value_at(card, length, 0, 100, -100).number; }
 static void query(void) { sum += (uint64_t)tarski_query(card, length, products[1]).number; }
 static void open(void) { opened = tarski_open(card, length); }
 static void ask(void) { sum += (uint64_t)tarski_ask(&opened, products[1]).number; }
@@ -126,14 +127,14 @@ int main(int count, char **words) {
             return 2;
         length = fread(card, 1, sizeof card, file);
         fclose(file);
-        see("check", check), see("value", value), see("query", query), see("query_all", query_all), see("open", open);
+        see("check", check), see("value", value), see("value_at", value_at), see("query", query), see("query_all", query_all), see("open", open);
         if (opened.refusal)
             return 2;
     }
     for (int k = 0; k < 56; k++)
         coefficients[k] = 1;
     see("write", put);
-    if (tarski_check(card, TARSKI_LONGEST_CARD).points != 64)
+    if (tarski_check(card, TARSKI_LONGEST_LINE_CARD).points != 64)
         puts("not written"), exit(1);
     see("draw", draw);
     for (int k = 0; k < 64; k++)

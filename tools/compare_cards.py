@@ -4,12 +4,12 @@
 usage: python3 tools/compare_cards.py [SEED|day [SOUND [BASES]]]    compares; prints one line of counts, exits 1 at a difference
        python3 tools/compare_cards.py --data                        writes crates/card_tests/data/cards and crates/card_tests/stdout
 
-SOUND cards are drawn, of every s and every n in turn. BASES more are drawn and damaged: cut at every length, every byte changed by some values,
-every cause of the refusal table at every place that it can have, and two such causes at once, at random and within one polynomial. Each card is
-asked about some products. The second reader goes another way: it takes the bytes off one after the other, works out values by powers and not by
-Horner's rule, and a query, its three counts and the panel number, by the exact product of the values to their powers and not by signs. SEED (day: that
-of the day), SOUND and BASES decide every card. It fails where a number that refuses a card did not occur, and where no query showed 0 for one of the
-two reasons that there are.
+SOUND cards are drawn, of every s and every n in turn, every other one with points in the plane. BASES more are drawn and damaged: cut at every length,
+every byte changed by some values, every cause of the refusal table at every place that it can have, and two such causes at once, at random and within
+one polynomial. Each card is asked about some products. The second reader goes another way: it takes the bytes off one after the other, keeps a polynomial
+as a dictionary of its monomials, whichever kind of card it is on, works out values by powers, and a query, its three counts and the panel number, by the
+exact product of the values to their powers and not by signs. SEED (day: that of the day), SOUND and BASES decide every card. It fails where a cause that
+refuses a card of either kind, or one of the cases in CASES, did not occur, and where no query showed 0 for one of the two reasons that there are.
 """
 
 import datetime
@@ -26,6 +26,9 @@ TESTS = os.path.join(ROOT, 'crates', 'card_tests')
 ROOM = 65536  # bytes that the program reads
 LARGEST = 1000000  # of a coefficient
 FURTHEST = 100  # of a point
+LINE, PLANE = 1, 2  # byte 0, and how many bytes a point has
+MONOMIALS = [(a, b) for a in range(7) for b in range(7 - a)]  # powers of X and Y, rising
+PLACES = [(100, 100), (7, -3), (101, -100), (-100, -101)]  # where card_tests asks for values
 
 # ---- the second reader
 
@@ -34,9 +37,9 @@ class Refused(Exception):
     pass
 
 
-def claim(holds, number):
+def claim(holds, number, cause):
     if not holds:
-        raise Refused(number)
+        raise Refused(number, cause)
 
 
 class Reader:
@@ -56,38 +59,71 @@ class Reader:
         return int.from_bytes(self.take(size), 'big', signed=signed)
 
 
+def line_body(r):
+    """A polynomial in X alone. Document 01, "Card order"; document 02, wish 1."""
+    d = r.number(1)
+    claim(d <= 6, 16, 'degree')
+    claim(r.left() >= 4 * (d + 1), 1, 'body cut short')
+    c = [r.number(4, signed=True) for _ in range(d + 1)]
+    claim(all(-LARGEST <= a <= LARGEST for a in c), 5, 'coefficient')
+    claim(d == 0 or c[d] != 0, 17, 'top coefficient')
+    return {(k, 0): a for k, a in enumerate(c)}
+
+
+def plane_body(r):
+    """A polynomial in X and Y. Document 02, wish 6."""
+    t = r.number(1)
+    claim(t <= 9, 18, 'number of terms')
+    claim(r.left() >= 6 * t, 1, 'body cut short')
+    terms = [((r.number(1), r.number(1)), r.number(4, signed=True)) for _ in range(t)]
+    powers = [power for power, _ in terms]
+    claim(all(a + b <= 6 for a, b in powers), 18, 'powers')
+    claim(powers == sorted(set(powers)), 18, 'order of terms')
+    claim(all(c for _, c in terms), 18, 'coefficient of 0')
+    claim(all(-LARGEST <= c <= LARGEST for _, c in terms), 5, 'coefficient')
+    return dict(terms)
+
+
 def read(card):
-    """The polynomials, each as (its place, its coefficients), and the points; or Refused with the number. Document 01, "Card order"; document 02, wish 1."""
+    """The polynomials, each as (its place, its length, its monomials: a dictionary from powers of X and Y to the coefficient), and the points, as pairs of X
+    and Y; or Refused with the number and the cause. On the line Y is 0."""
     r = Reader(card)
-    claim(r.left() >= 4, 1)
+    claim(r.left() >= 4, 1, 'header cut short')
     kind, s, n, zero = (r.number(1) for _ in range(4))
-    claim(kind == 1 and zero == 0, 2)
-    claim(1 <= s <= 8, 3)
-    claim(n <= 64, 3)
-    claim(r.left() >= 2 * (s + 1), 1)
+    claim(kind in (LINE, PLANE), 2, 'byte 0')
+    claim(zero == 0, 2, 'byte 3')
+    claim(1 <= s <= 8, 3, 's')
+    claim(n <= 64, 3, 'n')
+    claim(r.left() >= 2 * (s + 1), 1, 'contents cut short')
     offsets = [r.number(2) for _ in range(s + 1)]
-    claim(offsets[0] == r.at, 4)
+    claim(offsets[0] == r.at, 4, 'first offset')
     polynomials = []
     for after in offsets[1:]:
         place = r.at
-        claim(r.left() >= 1, 1)
-        d = r.number(1)
-        claim(d <= 6, 16)
-        claim(r.left() >= 4 * (d + 1), 1)
-        c = [r.number(4, signed=True) for _ in range(d + 1)]
-        claim(all(-LARGEST <= a <= LARGEST for a in c), 5)
-        claim(d == 0 or c[d] != 0, 17)
-        claim(after == r.at, 4)
-        polynomials.append((place, c))
-    claim(r.left() == n, 1)
-    points = [r.number(1, signed=True) for _ in range(n)]
-    claim(all(-FURTHEST <= p <= FURTHEST for p in points), 6)
-    claim(all(p <= q for p, q in zip(points, points[1:])), 6)
+        claim(r.left() >= 1, 1, 'no body')
+        terms = line_body(r) if kind == LINE else plane_body(r)
+        claim(after == r.at, 4, 'next offset')
+        polynomials.append((place, r.at - place, terms))
+    claim(r.left() == kind * n, 1, 'remaining bytes')
+    points = [(r.number(1, signed=True), r.number(1, signed=True) if kind == PLANE else 0) for _ in range(n)]
+    claim(all(-FURTHEST <= v <= FURTHEST for point in points for v in point), 6, 'point outside')
+    claim(points == sorted(points), 6, 'order of points')
     return polynomials, points
 
 
-def value(c, x):
-    return sum(a * x ** k for k, a in enumerate(c))
+EITHER = {'1 contents cut short', '1 no body', '1 body cut short', '1 remaining bytes', '2 byte 3', '3 s', '3 n', '4 first offset', '4 next offset',
+          '5 coefficient', '6 point outside', '6 order of points'}
+CAUSES = {'line': EITHER | {'16 degree', '17 top coefficient'},
+          'plane': EITHER | {'18 number of terms', '18 powers', '18 order of terms', '18 coefficient of 0'},
+          'other': {'1 header cut short', '2 byte 0'}}
+
+
+def kind_of(card):
+    return {LINE: 'line', PLANE: 'plane'}.get(card[0], 'other') if len(card) >= 4 else 'other'
+
+
+def value(terms, x, y=0):
+    return sum(c * x ** a * y ** b for (a, b), c in terms.items())
 
 
 def query(values, product):
@@ -99,45 +135,69 @@ def query(values, product):
     return counts + [sum((v > 0) - (v < 0) for v in products)]
 
 
-def position(card, number, place, c):
-    """The line of a polynomial's position: where it stands, its body's length and the body's bytes as one number, its values."""
+def refused(number):
+    return 'R %d' % number
+
+
+def at_places(terms):
+    """Values at PLACES, or 6."""
+    return [str(value(terms, x, y)) if max(abs(x), abs(y)) <= FURTHEST else refused(6) for x, y in PLACES]
+
+
+def position(card, number, place=0, size=0, terms=None):
+    """The line of a polynomial's position: where it stands, its body's length and the body's bytes as one number, its values on the line, which a card of any
+    other kind does not have, and at PLACES."""
+    plane = len(card) >= 4 and card[0] != LINE
     if number:
-        return 'N %d 0 0 %d %d %d' % (number, number, number, number)
-    body = card[place:place + 1 + 4 * len(c)]
+        return ' '.join(['N %d 0 0' % number] + [refused(2 if plane else number)] * 3 + [refused(number)] * len(PLACES))
     digits = 0
-    for b in body:
+    for b in card[place:place + size]:
         digits = (31 * digits + b) % 65521
-    return 'A %d %d %d %d %d %d %d' % (place, len(body), len(body), digits, value(c, -128), value(c, -1), value(c, 100))
+    on_line = [refused(2) if plane else str(value(terms, x)) for x in (-128, -1, 100)]
+    return ' '.join(['A %d %d %d %d' % (place, size, size, digits)] + on_line + at_places(terms))
 
 
 def answers(card, products):
-    """What card_tests must write about a card."""
+    """What card_tests must write about a card, and why it is refused: its number and the cause, or nothing."""
     try:
         polynomials, points = read(card)
-    except Refused as refused:
-        number = refused.args[0]
-        return ['R %d' % number, position(card, number, 0, [])] + ['Q %d R %d R %d' % (a, number, number) for a in products]
+    except Refused as why:
+        number = why.args[0]
+        return [refused(number), position(card, number)] + ['Q %d R %d R %d' % (a, number, number) for a in products], '%d %s' % why.args
     lines = ['S %d %d' % (len(polynomials), len(points))]
-    lines += [position(card, 0, place, c) for place, c in polynomials]
-    lines.append(position(card, 14, 0, []))
-    values = [[value(c, x) for _, c in polynomials] for x in points]
+    lines += [position(card, 0, *found) for found in polynomials]
+    lines.append(position(card, 14))
+    values = [[value(terms, x, y) for *_, terms in polynomials] for x, y in points]
     for a in products:
         shown = '%d %d %d %d' % tuple(query(values, a)) if a < 3 ** len(polynomials) else 'R 13'
         lines.append('Q %d %s %s' % (a, shown, shown))
-    return lines
+    return lines, ''
 
 
 # ---- cards
 
 
+def put_together(kind, bodies, points):
+    at, offsets = 4 + 2 * (len(bodies) + 1), []
+    for body in bodies:
+        offsets.append(at)
+        at += len(body)
+    head = bytes([kind, len(bodies), len(points) // kind, 0]) + b''.join(o.to_bytes(2, 'big') for o in offsets + [at])
+    return head + b''.join(bodies) + bytes(p % 256 for p in points)
+
+
+def word(a):
+    return a.to_bytes(4, 'big', signed=True)
+
+
 def write(polynomials, points):
-    at, bodies, offsets = 4 + 2 * (len(polynomials) + 1), b'', []
-    for c in polynomials:
-        offsets.append(at + len(bodies))
-        bodies += bytes([len(c) - 1]) + b''.join(a.to_bytes(4, 'big', signed=True) for a in c)
-    offsets.append(at + len(bodies))
-    head = bytes([1, len(polynomials), len(points), 0]) + b''.join(o.to_bytes(2, 'big') for o in offsets)
-    return head + bodies + bytes(p % 256 for p in points)
+    return put_together(LINE, [bytes([len(c) - 1]) + b''.join(map(word, c)) for c in polynomials], points)
+
+
+def write_plane(polynomials, points):
+    """A card of points in the plane: of dictionaries of monomials and of pairs."""
+    bodies = [bytes([len(terms)]) + b''.join(bytes(powers) + word(c) for powers, c in sorted(terms.items())) for terms in polynomials]
+    return put_together(PLANE, bodies, [v for point in points for v in point])
 
 
 def polynomial(rng):
@@ -172,6 +232,44 @@ def sound(rng, s, n):
     return write([polynomial(rng) for _ in range(s)], points(rng, n))
 
 
+def times(p, q):
+    """The product of two polynomials in X and Y."""
+    found = {}
+    for (a, b), c in p.items():
+        for (d, e), f in q.items():
+            found[a + d, b + e] = found.get((a + d, b + e), 0) + c * f
+    return {powers: c for powers, c in found.items() if c}
+
+
+def plane_polynomial(rng):
+    """A product of lines, or some monomials with extreme, random or small coefficients, or a constant, 0 too."""
+    kind = rng.choice(['lines', 'lines', 'extreme', 'random', 'small', 'constant'])
+    if kind == 'constant':
+        return rng.choice([{}, {}, {(0, 0): 1}, {(0, 0): -LARGEST}])
+    if kind == 'lines':
+        terms = {(0, 0): rng.choice([1, -1, 7])}
+        for _ in range(rng.randint(1, 6)):
+            steep, flat, off = rng.choice([(1, 0), (0, 1), (1, 1), (1, -1), (2, 1), (1, -3)]) + (rng.randint(-6, 6),)
+            longer = times(terms, {powers: c for powers, c in (((1, 0), steep), ((0, 1), flat), ((0, 0), off)) if c})
+            if len(longer) > 9 or max(map(abs, longer.values())) > LARGEST:
+                break
+            terms = longer
+        return terms
+    most = {'extreme': LARGEST, 'random': LARGEST, 'small': 20}[kind]
+    chosen = rng.sample(MONOMIALS, rng.choice([1, 2, 3, 5, 9, 9]))
+    return {powers: rng.choice([-1, 1]) * (most if kind == 'extreme' else rng.randint(1, most)) for powers in chosen}
+
+
+def sound_plane(rng, s, n):
+    """Points in a square, near the lines, and some of them more than once."""
+    reach = rng.choice([0, 1, 3, 6, 6, FURTHEST])
+    drawn = [(rng.randint(-reach, reach), rng.randint(-reach, reach)) for _ in range(n)]
+    for k in range(n):
+        if rng.random() < 0.1:
+            drawn[k] = rng.choice([drawn[0], (-FURTHEST, FURTHEST), (FURTHEST, -FURTHEST), (FURTHEST, FURTHEST)])
+    return write_plane([plane_polynomial(rng) for _ in range(s)], sorted(drawn))
+
+
 def products(rng, s):
     """All of up to 3 polynomials, else some; the last, the first past it, and others past it."""
     count = 3 ** s
@@ -193,46 +291,116 @@ def changes(rng, card):
 
 def causes(card):
     """Every cause of the table at every place, on a sound card."""
-    polynomials, x = read(card)
-    s, end = len(polynomials), len(card)
-    found = [(0, 1, bytes([b])) for b in (0, 2, 255)] + [(3, 4, bytes([b])) for b in (1, 128, 255)]
+    polynomials, points = read(card)
+    kind, s, end = card[0], len(polynomials), len(card)
+    found = [(0, 1, bytes([b])) for b in (0, 3 - kind, 3, 255)] + [(3, 4, bytes([b])) for b in (1, 128, 255)]
     found += [(1, 2, bytes([b])) for b in (0, 9, 255)] + [(2, 3, bytes([b])) for b in (65, 255)]
     for j in range(s + 1):
         at = 4 + 2 * j
         offset = int.from_bytes(card[at:at + 2], 'big')
         found += [(at, at + 2, o.to_bytes(2, 'big')) for o in (offset - 1, offset + 1, offset + 256, 0, 65535)]
-    for place, c in polynomials:
-        found += [(place, place + 1, bytes([b])) for b in (7, 255)]
-        for k in range(len(c)):
-            at = place + 1 + 4 * k
-            found += [(at, at + 4, a.to_bytes(4, 'big', signed=True)) for a in (LARGEST + 1, -LARGEST - 1, 2 ** 31 - 1, -2 ** 31, LARGEST, -LARGEST)]
-        if len(c) > 1:
-            found.append((place + 4 * len(c) - 3, place + 4 * len(c) + 1, bytes(4)))
-        found += [(place, end, b''), (place + 1, end, b''), (place + 4 * len(c), end, b'')]
-    first = end - len(x)
-    for k in range(len(x)):
-        found += [(first + k, first + k + 1, bytes([p % 256])) for p in (101, -101, 127, -128)]
-        if k:
-            found.append((first + k, first + k + 1, bytes([(x[k - 1] - 1) % 256])))
-    found += [(end, end, extra) for extra in (b'\0', b'\1', b'\x9c', b'\xff', b'\0' * 5)]
-    return found + [(at, end, b'') for at in (0, 1, 2, 3, 4, 5, 4 + 2 * s, 5 + 2 * s, end - 1)]
+    for place, size, terms in polynomials:
+        found += [(place, place + 1, bytes([b])) for b in ((7, 255) if kind == LINE else (10, 255))]
+        for at in coefficient_places(card, place, size):
+            found += [(at, at + 4, word(a)) for a in (LARGEST + 1, -LARGEST - 1, 2 ** 31 - 1, -2 ** 31, LARGEST, -LARGEST, 0)]
+        found += [(place, end, b''), (place + 1, end, b''), (place + size - 1, end, b'')]
+        if kind == PLANE:
+            found += [damage for i in range(len(terms)) for _, damage in wrong_terms(card, place, i)]
+    first = end - kind * len(points)
+    found += [(at, at + 1, bytes([p % 256])) for at in range(first, end) for p in (101, -101, 127, -128)]
+    for k in range(1, len(points)):
+        falling = (first + k, first + k + 1, bytes([(points[k - 1][0] - 1) % 256]))
+        found += [falling] if kind == LINE else [damage for _, damage in wrong_points(card, first, k)]
+    found += [(end, end, extra) for extra in (b'\0', b'\1', b'\x9c', b'\xff', b'\0\0', b'\0' * 5)]
+    return found + [(at, end, b'') for at in (0, 1, 2, 3, 4, 5, 4 + 2 * s, 5 + 2 * s, end - 1, first + len(points))]
+
+
+def coefficient_places(card, place, size):
+    """Where the coefficients of a body stand."""
+    return range(place + 1, place + size, 4) if card[0] == LINE else range(place + 3, place + size, 6)
+
+
+def wrong_terms(card, place, i):
+    """What is wrong of term i of a body in the plane, each with its case."""
+    at = place + 1 + 6 * i
+    found = [('powers of 7', bytes([3, 4])), ('powers of 7', bytes([7, 0]))]
+    found += [('powers of 255 and 1', bytes([255, 1])), ('powers of 255 and 1', bytes([1, 255]))]
+    if i:
+        a, b = card[at - 6:at - 4]
+        found.append(('a term twice', bytes([a, b])))
+        found += [('a term that falls by Y', bytes([a, b - 1]))] if b else []
+        found += [('a term that falls by X, rising by Y', bytes([a - 1, b + 1]))] if a else []
+    return [(case, (at, at + 2, put)) for case, put in found] + [('a coefficient of 0', (at + 2, at + 6, bytes(4)))]
+
+
+def wrong_points(card, first, k):
+    """Point k in the plane, which is not the first, put beside the one before it, each with its case."""
+    at = first + 2 * k
+    x, y = (int.from_bytes(card[i:i + 1], 'big', signed=True) for i in (at - 2, at - 1))
+    found = [('two equal points', (x, y))]
+    found += [('a point that falls by Y', (x, y - 1))] if y > -FURTHEST else []
+    found += [('a point that falls by X, rising by Y', (x - 1, y + 1))] if x > -FURTHEST and y < FURTHEST else []
+    return [(case, (at, at + 2, bytes(v % 256 for v in put))) for case, put in found]
 
 
 def together(card):
     """Two causes of one polynomial at once, or one of them and what comes next on the card: the order of 16, 1, 5, 17 and 4."""
     polynomials, _ = read(card)
     found = []
-    for j, (place, c) in enumerate(polynomials):
-        high, end = (place, place + 1, bytes([7])), place + 4 * len(c) + 1
+    for j, (place, size, c) in enumerate(polynomials):
+        high, end = (place, place + 1, bytes([7])), place + size
         wrong = (6 + 2 * j, 8 + 2 * j, (end + 1).to_bytes(2, 'big'))
-        large = [(place + 4 * k + 1, place + 4 * k + 5, (LARGEST + 1).to_bytes(4, 'big')) for k in range(len(c))]
+        large = [(at, at + 4, word(LARGEST + 1)) for at in coefficient_places(card, place, size)]
         found += [(high, (place + 1, len(card), b'')), (high, wrong), (high, large[0]), (large[-1], wrong), (large[0], (end - 1, len(card), b''))]
         if len(c) > 1:
             zero = (end - 4, end, bytes(4))
             found += [(zero, wrong), (zero, (end - 1, len(card), b'')), (zero, large[0]), (zero, large[-2]), (zero, high)]
         if len(c) > 1 and j + 1 < len(polynomials):
             after = polynomials[j + 1][0]
-            found += [(zero, (after, after + 1, bytes([7]))), (zero, (after + 1, after + 5, (LARGEST + 1).to_bytes(4, 'big')))]
+            found += [(zero, (after, after + 1, bytes([7]))), (zero, (after + 1, after + 5, word(LARGEST + 1)))]
+    return found
+
+
+WRONG_TERMS = ('powers of 7', 'powers of 255 and 1', 'a term twice', 'a term that falls by Y', 'a term that falls by X, rising by Y', 'a coefficient of 0')
+# Of cards of points in the plane: one cause, or two at once, and the number that must refuse it; 0 where it is sound.
+CASES = {case: 18 for case in WRONG_TERMS}
+CASES.update({case + and_so: number for case in WRONG_TERMS for and_so, number in (
+    (', cut short', 1), (', a large coefficient before it', 18), (', a large coefficient after it', 18), (', wrong offset', 18))})
+CASES.update({
+    'over 9 terms, cut short': 18, 'over 9 terms, wrong offset': 18,
+    'a large coefficient, cut short': 1, 'a large coefficient, wrong offset': 5, 'wrong term in the next polynomial, wrong offset': 4,
+    'wrong last offset, a byte too many': 4, 'a byte too many, a point outside': 1, 'a byte too few, a point that falls': 1, 'one byte for each point': 1,
+    'X outside': 6, 'Y outside': 6, 'a point that falls by Y': 6, 'a point that falls by X, rising by Y': 6,
+    'two equal points': 0, 'a polynomial 0': 0, 'nine terms': 0})
+
+
+def cases(card):
+    """On a sound card of points in the plane, each of CASES that it has a place for, with the damages that make it so."""
+    polynomials, points = read(card)
+    end, found = len(card), []
+    for j, (place, size, terms) in enumerate(polynomials):
+        cut, many = (place + size - 1, end, b''), (place, place + 1, bytes([10]))
+        offset = (6 + 2 * j, 8 + 2 * j, (place + size + 1).to_bytes(2, 'big'))
+        large = [(at, at + 4, word(LARGEST + 1)) for at in coefficient_places(card, place, size)]
+        found += [('a polynomial 0', ())] * (len(terms) == 0) + [('nine terms', ())] * (len(terms) == 9)
+        found += [('over 9 terms, cut short', (many, (place + 1, end, b''))), ('over 9 terms, wrong offset', (many, offset))]
+        found += [('a large coefficient, cut short', (one, cut)) for one in large] + [('a large coefficient, wrong offset', (one, offset)) for one in large]
+        for i in range(len(terms)):
+            for case, wrong in wrong_terms(card, place, i):
+                found += [(case, (wrong,)), (case + ', cut short', (wrong, cut)), (case + ', wrong offset', (wrong, offset))]
+                found += [(case + ', a large coefficient before it', (wrong, large[0]))] * (i > 0)
+                found += [(case + ', a large coefficient after it', (wrong, large[-1]))] * (i + 1 < len(terms))
+                if j:
+                    found.append(('wrong term in the next polynomial, wrong offset', (wrong, (4 + 2 * j, 6 + 2 * j, (place + 1).to_bytes(2, 'big')))))
+    first, longer = end - 2 * len(points), (end, end, b'\x64')
+    found.append(('wrong last offset, a byte too many', ((4 + 2 * len(polynomials), 6 + 2 * len(polynomials), (first + 1).to_bytes(2, 'big')), longer)))
+    for k in range(len(points)):
+        x, y = ((at, at + 1, bytes([101])) for at in (first + 2 * k, first + 2 * k + 1))
+        found += [('X outside', (x,)), ('Y outside', (y,)), ('a byte too many, a point outside', (x, longer))]
+        found.append(('one byte for each point', ((first + len(points), end, b''),)))
+        beside = wrong_points(card, first, k) if k else []
+        found += [(case, (wrong,)) for case, wrong in beside]
+        found += [('a byte too few, a point that falls', (wrong, (end - 1, end, b''))) for case, wrong in beside[1:] if k + 1 < len(points)]
     return found
 
 
@@ -244,16 +412,21 @@ def changed(card, *damages):
 
 
 def damaged(rng, base):
-    """Of a sound card: every cause at every place, as many pairs of them, those of one polynomial, every cut and every changed byte."""
+    """Of a sound card: every cause at every place, as many pairs of them, those of one polynomial, every cut and every changed byte; in the plane CASES too,
+    each case that there is some times. Each card with its case, or nothing."""
     single = causes(base)
-    pairs = [rng.sample(single, 2) for _ in single] + together(base)
-    return [changed(base, d) for d in single + cuts(base) + changes(rng, base)] + [changed(base, *d) for d in pairs]
+    pairs = [rng.sample(single, 2) for _ in single] + (together(base) if base[0] == LINE else [])
+    found = [(changed(base, d), '') for d in single + cuts(base) + changes(rng, base)] + [(changed(base, *d), '') for d in pairs]
+    named = {}
+    for case, damages in cases(base) if base[0] == PLANE else []:
+        named.setdefault(case, []).append(changed(base, *damages))
+    return found + [(card, case) for case, cards in named.items() for card in rng.sample(cards, min(len(cards), 6))]
 
 
 # ---- the comparison
 
 
-def record(card, asked):
+def record(card, asked, _=''):
     return len(card).to_bytes(2, 'big') + len(asked).to_bytes(2, 'big') + card + b''.join(a.to_bytes(2, 'big') for a in asked)
 
 
@@ -273,7 +446,7 @@ def files(cards):
 def difference(batch, expected, written):
     """The first card of a file that the program writes something else about."""
     at = 0
-    for (card, _), lines in zip(batch, expected):
+    for (card, *_), lines in zip(batch, expected):
         for line in lines:
             got = written[at] if at < len(written) else 'nothing'
             if got != line:
@@ -283,69 +456,98 @@ def difference(batch, expected, written):
 
 
 def compare(cards):
-    """Runs the program on the cards, and gives what it found by number and why queries showed 0, or stops at the first difference."""
+    """Runs the program on the cards, and gives how often each cause and each case occurred and why queries showed 0, or stops at the first difference."""
     seen, nothing = {}, {'only zeros': 0, 'as many + as -': 0}
     with tempfile.TemporaryDirectory() as folder:
         path = os.path.join(folder, 'cards')
         for batch in files(cards):
             with open(path, 'wb') as out:
                 out.write(b''.join(record(*entry) for entry in batch))
-            expected = [answers(*entry) for entry in batch]
+            told = [answers(card, asked) for card, asked, _ in batch]
+            expected = [lines for lines, _ in told]
             text = ''.join(line + '\n' for lines in expected for line in lines)
             ran = subprocess.run([PROGRAM, path], stdout=subprocess.PIPE, check=False)
             if ran.returncode or ran.stdout != text.encode():
                 sys.exit('compare_cards: DIFFERENCE: ' + difference(batch, expected, ran.stdout.decode('ascii', 'replace').splitlines()))
-            for lines in expected:
-                key = 'sound' if lines[0][0] == 'S' else lines[0][2:]
-                seen[key] = seen.get(key, 0) + 1
+            for (card, _, case), (lines, why) in zip(batch, told):
+                if case and CASES[case] != int(why.split()[0] if why else 0):
+                    sys.exit('compare_cards: %s must give %d: card %s is refused by %s' % (case, CASES[case], card.hex(), why or 'nothing'))
+                for key in ('%s: %s' % (kind_of(card), why or 'sound'), case):
+                    seen[key] = seen.get(key, 0) + 1
                 for _, _, positive, negative, zero, *_ in (line.split() for line in lines if line[0] == 'Q' and 'R' not in line):
                     nothing['only zeros'] += positive == negative == '0' and zero != '0'
                     nothing['as many + as -'] += positive == negative != '0'
     return seen, nothing
 
 
+def with_every_case(rng):
+    """A card of points in the plane that has a place for each of CASES."""
+    nine = {powers: rng.randint(1, LARGEST) for powers in MONOMIALS[5:14]}
+    return write_plane([nine, {}, {(0, 1): -1, (1, 0): 1}], sorted((rng.randint(-9, 9), rng.randint(-9, 9)) for _ in range(5)))
+
+
 def draw(seed, sounds, bases):
-    """The sound cards and the damaged ones, each with products."""
+    """The sound cards and the damaged ones, each with products and its case; every other one is of points in the plane."""
     rng = random.Random(seed)
     whole, broken = [], []
     for i in range(sounds):
-        s, n = 1 + i % 8, i // 8 % 65
-        whole.append((sound(rng, s, n), products(rng, s)))
+        s, n = 1 + i // 2 % 8, i // 8 % 65
+        whole.append(((sound_plane if i % 2 else sound)(rng, s, n), products(rng, s), ''))
     for i in range(bases):
-        base = sound(rng, 1 + i % 8, rng.choice([0, 1, 2, 3, 5, 9, 17, 64]))
-        broken += [(card, [rng.randrange(27), 65535]) for card in damaged(rng, base)]
+        base = (sound_plane if i % 2 else sound)(rng, 1 + i // 2 % 8, rng.choice([0, 1, 2, 3, 5, 9, 17, 64]))
+        base = with_every_case(rng) if i == 1 else base
+        broken += [(card, [rng.randrange(27), 65535], case) for card, case in damaged(rng, base)]
     return whole, broken
 
 
 def show(seed, sounds, bases):
-    """Compares and prints the counts: of the damaged cards some are sound, as one with another coefficient. Fails where a number, or a way to show 0,
+    """Compares and prints the counts: of the damaged cards some are sound, as one with another coefficient. Fails where a cause, a case, or a way to show 0,
     never occurred."""
     whole, broken = draw(seed, sounds, bases)
     seen, nothing = compare(whole + broken)
-    missing = {'sound', '1', '2', '3', '4', '5', '6', '16', '17'} - set(seen) | {why for why in nothing if not nothing[why]}
+    missing = {'%s: %s' % (kind, why) for kind in CAUSES for why in CAUSES[kind]} | {'line: sound', 'plane: sound'} | set(CASES)
+    missing = missing - set(seen) | {why for why in nothing if not nothing[why]}
     if missing or not whole or not broken:
-        sys.exit('compare_cards: did not occur: ' + ', '.join(sorted(missing) or ['a card']))
-    asked = sum(len(products) for _, products in whole + broken)
-    found = ', '.join('%s: %d' % (key, seen[key]) for key in sorted(seen, key=lambda key: (len(key), key)))
+        sys.exit('compare_cards: did not occur: ' + '; '.join(sorted(missing) or ['a card']))
+    asked = sum(len(products) for _, products, _ in whole + broken)
+    by_number = {}
+    for key in set(seen) - set(CASES) - {''}:
+        short = ' '.join(key.split()[:2])
+        by_number[short] = by_number.get(short, 0) + seen[key]
+    found = ', '.join('%s %d times' % (key, by_number[key]) for key in sorted(by_number, key=lambda key: (key.split()[0], len(key), key)))
     why = ' and '.join('%d for %s' % (nothing[why], why) for why in nothing)
-    print('compare_cards: seed %d: %d sound and %d damaged cards, %d queries, 0 shown by %s, no difference (by number %s)'
-          % (seed, len(whole), len(broken), asked, why, found))
+    print('compare_cards: seed %d: %d sound and %d damaged cards, %d queries, 0 shown by %s, %d cases of plane cards, no difference (by number %s)'
+          % (seed, len(whole), len(broken), asked, why, len(CASES), found))
 
 
 # ---- the committed file
 
 
 def committed():
-    """Document 01's card product by product, the edges about queries, every cause at every place of a small card, and some drawn cards."""
+    """Document 01's card product by product, the edges about queries, every cause at every place of a small card, and some drawn cards; then the same of
+    cards of points in the plane: a circle and a line, the least and the longest card, every case of a small card."""
     rng = random.Random(20261115)
     example = write([[0, 1], [1, 1], [-2, 1]], [-3, 1, 3])
     eight = write([[1]] * 8, [5])
     largest = write([[LARGEST] * 7] * 8, [FURTHEST] * 64)
     least = write([[0]], [])
     cards = [(b'', [0]), (b'\1', [0]), (example, list(range(27)) + [27, 65535]), (eight, [6560, 6561]), (largest, [0, 1, 6560, 6561]), (least, [0, 1, 2, 3])]
-    cards += [(card, [0, 27]) for card in damaged(rng, example)]
+    cards += [(card, [0, 27]) for card, _ in damaged(rng, example)]
     for i in range(64):
         cards.append((sound(rng, 1 + i % 8, i), [0, 1, 3 ** (1 + i % 8) - 1, 3 ** (1 + i % 8)]))
+    circle = write_plane([{(0, 0): -25, (0, 2): 1, (2, 0): 1}, {(0, 1): -1, (1, 0): 1}], [(-3, 4), (0, 0), (3, 4), (4, 3), (6, 1)])
+    largest = write_plane([dict.fromkeys(MONOMIALS[-9:], LARGEST)] * 8, [(FURTHEST, FURTHEST)] * 64)
+    most = write_plane([dict.fromkeys([(6 - b, b) for b in range(7)] + [(5, 0), (4, 1)], LARGEST)], [(-FURTHEST, FURTHEST), (FURTHEST, FURTHEST)])
+    least = write_plane([{}], [])
+    cards += [(b'\2', [0]), (circle, list(range(9)) + [9, 65535]), (largest, [0, 1, 6560, 6561]), (largest + b'\x64', [0])]
+    cards += [(most, [0, 1, 2, 3]), (least, [0, 1, 2, 3])]
+    seen = set()
+    for card, case in damaged(rng, circle):
+        if not case or case not in seen:
+            cards.append((card, [0]))
+        seen.add(case)
+    for i in range(16):
+        cards.append((sound_plane(rng, 1 + i % 8, 4 * i), [0, 1, 3 ** (1 + i % 8) - 1, 3 ** (1 + i % 8)]))
     return cards
 
 
@@ -356,7 +558,7 @@ def store():
     with open(os.path.join(TESTS, 'data', 'cards'), 'wb') as out:
         out.write(data)
     with open(os.path.join(TESTS, 'stdout'), 'w') as out:
-        out.write(''.join(line + '\n' for entry in cards for line in answers(*entry)))
+        out.write(''.join(line + '\n' for entry in cards for line in answers(*entry)[0]))
     print('compare_cards: %d cards, %d bytes written' % (len(cards), len(data)))
 
 

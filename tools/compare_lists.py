@@ -3,10 +3,11 @@
 
 usage: python3 tools/compare_lists.py [SEED|day [CARDS]]    compares; prints one line of counts, exits 1 at a difference
 
-CARDS cards are drawn, of every s and every n in turn, each third one with a damage of tools/compare_cards.py. Each is asked some lists: empty, short and
-long ones, with products that stand more than once, with a bad product first, in between and last, with two, into slices as long as the list, longer and
-shorter. Of each call the refusal, the position and the whole slice are compared. The second reader is that of tools/compare_cards.py: values by powers, a
-query by the exact product of the values. It needs the archive that `rt staticlib tarski` makes, and cc. It fails where a case never occurred.
+CARDS cards are drawn, of every s and every n in turn, every other one with points in the plane, each third one with a damage of
+tools/compare_cards.py. Each is asked some lists: empty, short and long ones, with products that stand more than once, with a bad product first, in between
+and last, with two, into slices as long as the list, longer and shorter. Of each call the refusal, the position and the whole slice are compared. The
+second reader is that of tools/compare_cards.py: values by powers, a query by the exact product of the values. It needs the archive that
+`rt staticlib tarski` makes, and cc. It fails where a case never occurred on either kind of card.
 """
 
 import datetime
@@ -39,7 +40,7 @@ def answer(card, products, room):
     if bad:
         case = 'two bad' if len(bad) > 1 else 'first bad' if bad[0] == 0 else 'last bad' if bad[0] == len(products) - 1 else 'middle bad'
         return 13, bad[0], kept, case
-    values = [[compare_cards.value(c, x) for _, c in polynomials] for x in points]
+    values = [[compare_cards.value(terms, x, y) for *_, terms in polynomials] for x, y in points]
     shown = {a: compare_cards.query(values, a)[3] for a in set(products)}
     case = 'empty' if not products else 'repeated' if len(shown) < len(products) else 'written'
     return 0, 0, [shown[a] for a in products] + kept[len(products):], case if room == len(products) else case + ', kept past it'
@@ -83,8 +84,8 @@ def draw(seed, cards):
     """The cases: a card, a list and the room."""
     rng = random.Random(seed)
     for i in range(cards):
-        s, n = 1 + i % 8, i // 8 % 65
-        card = compare_cards.sound(rng, s, n)
+        s, n = 1 + i // 2 % 8, i // 8 % 65
+        card = (compare_cards.sound_plane if i % 2 else compare_cards.sound)(rng, s, n)
         if i % 3 == 2:
             card = compare_cards.changed(card, rng.choice(compare_cards.causes(card)))
         for products, room in lists(rng, s):
@@ -109,19 +110,20 @@ def main(arguments):
             out.write(b''.join(record(*case) for case in cases))
         ran = subprocess.run([program, path], stdout=subprocess.PIPE, check=False)
     lines = ran.stdout.decode('ascii', 'replace').splitlines()
-    seen = dict.fromkeys(CASES, 0)
+    seen = {(kind, case): 0 for kind in ('line', 'plane') for case in CASES}
     for k, (card, products, room) in enumerate(cases):
         refusal, position, left, case = answer(card, products, room)
         must, got = ' '.join(map(str, [refusal, position] + left)), lines[k] if k < len(lines) else 'nothing'
         if got != must:
             sys.exit('compare_lists: DIFFERENCE: card %s, products %s, room %d\n  must be: %s\n  is:      %s' % (card.hex(), products, room, must, got))
-        seen[case] += 1
+        kind = compare_cards.kind_of(card)
+        seen[kind, case] = seen.get((kind, case), 0) + 1
     if ran.returncode or len(lines) != len(cases):
         sys.exit('compare_lists: the program failed: %s' % lines[len(cases):])
     if not all(seen.values()):
-        sys.exit('compare_lists: did not occur: ' + ', '.join(case for case in CASES if not seen[case]))
+        sys.exit('compare_lists: did not occur: ' + '; '.join('%s: %s' % key for key in seen if not seen[key]))
     print('compare_lists: seed %d: %d lists of products on %d cards, no difference (%s)'
-          % (numbers[0], len(cases), numbers[1], '; '.join('%s: %d' % (case, seen[case]) for case in CASES)))
+          % (numbers[0], len(cases), numbers[1], '; '.join('%s: %d' % (case, sum(seen[key] for key in seen if key[1] == case)) for case in CASES)))
 
 
 if __name__ == '__main__':

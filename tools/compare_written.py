@@ -6,8 +6,8 @@ usage: python3 tools/compare_written.py [SEED|day [DRAWS [BASES]]]    compares; 
        python3 tools/compare_written.py --data                        writes the files of crates/writer_tests and crates/drawcard
 
 DRAWS cards are drawn, from the seeds 0, 1, 2^32 - 1 and others, of every s, n and degree, into buffers that are just long enough, longer, or too short;
-then every cause of a refused draw, and two at once. The sound cards of tools/compare_cards.py are taken apart by its reader and written again, byte for
-byte. BASES more are damaged before they are written: every cause at every place, and two at once. Of each call the answer and the whole buffer are
+then every cause of a refused draw, and two at once. The sound line cards of tools/compare_cards.py are taken apart by its reader and written again, byte
+for byte. BASES more are damaged before they are written: every cause at every place, and two at once. Of each call the answer and the whole buffer are
 compared. The second writer goes another way: it steps the generator by whole numbers and takes the remainder, sorts by Python's own sort, and makes the
 bytes by int.to_bytes. It fails where a number did not occur.
 """
@@ -140,7 +140,7 @@ def refused_draws(rng):
 
 def taken_apart(card):
     polynomials, points = compare_cards.read(card)
-    return [len(c) - 1 for _, c in polynomials], [a for _, c in polynomials for a in c], points
+    return [len(c) - 1 for *_, c in polynomials], [a for *_, c in polynomials for a in c.values()], [x for x, _ in points]
 
 
 def again(card):
@@ -250,7 +250,7 @@ def program(rng):
 
 def show(seed, count, bases):
     rng = random.Random(seed)
-    sounds = [card for card, _ in compare_cards.draw(seed, 2080, 0)[0]]
+    sounds = [card for card, *_ in compare_cards.draw(seed, 4160, 0)[0] if card[0] == compare_cards.LINE]
     calls = list(draws(rng, count)) + list(refused_draws(rng)) + [again(card) for card in sounds]
     broken = [call for i in range(bases) for call in damaged(rng, compare_cards.sound(rng, 1 + i % 8, [3, 1, 64, 0, 2, 5, 9, 17][i % 8]))]
     seen = compare(calls + broken)

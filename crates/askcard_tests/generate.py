@@ -17,12 +17,42 @@ class Refused(Exception):
     pass
 
 
+def line_body(card, at):
+    """The polynomial on the line whose body begins at a place: from powers of X and Y to coefficients; and its length."""
+    d = card[at]
+    if d > 6:
+        raise Refused(16)
+    if at + 5 + 4 * d > len(card):
+        raise Refused(1)
+    c = struct.unpack('>%di' % (d + 1), card[at + 1:at + 5 + 4 * d])
+    if any(abs(a) > 10 ** 6 for a in c):
+        raise Refused(5)
+    if d > 0 and c[d] == 0:
+        raise Refused(17)
+    return {(k, 0): a for k, a in enumerate(c)}, 5 + 4 * d
+
+
+def plane_body(card, at):
+    """The same in the plane."""
+    t = card[at]
+    if t > 9:
+        raise Refused(18)
+    if at + 1 + 6 * t > len(card):
+        raise Refused(1)
+    terms = [struct.unpack('>BBi', card[k:k + 6]) for k in range(at + 1, at + 1 + 6 * t, 6)]
+    if any(a + b > 6 or c == 0 for a, b, c in terms) or any(p[:2] >= q[:2] for p, q in zip(terms, terms[1:])):
+        raise Refused(18)
+    if any(abs(c) > 10 ** 6 for _, _, c in terms):
+        raise Refused(5)
+    return {(a, b): c for a, b, c in terms}, 1 + 6 * t
+
+
 def read(card):
-    """The polynomials, each a list of coefficients, and the points; or Refused with the number."""
+    """The polynomials, each from powers of X and Y to coefficients, and the points, X and Y; or Refused with the number. On the line Y is 0."""
     if len(card) < 4:
         raise Refused(1)
     kind, s, n, zero = card[:4]
-    if kind != 1 or zero != 0:
+    if kind not in (1, 2) or zero != 0:
         raise Refused(2)
     if not 1 <= s <= 8 or n > 64:
         raise Refused(3)
@@ -36,24 +66,16 @@ def read(card):
     for j in range(s):
         if at >= len(card):
             raise Refused(1)
-        d = card[at]
-        if d > 6:
-            raise Refused(16)
-        if at + 5 + 4 * d > len(card):
-            raise Refused(1)
-        c = list(struct.unpack('>%di' % (d + 1), card[at + 1:at + 5 + 4 * d]))
-        if any(abs(a) > 10 ** 6 for a in c):
-            raise Refused(5)
-        if d > 0 and c[d] == 0:
-            raise Refused(17)
-        polynomials.append(c)
-        at += 5 + 4 * d
+        terms, size = line_body(card, at) if kind == 1 else plane_body(card, at)
+        polynomials.append(terms)
+        at += size
         if offsets[j + 1] != at:
             raise Refused(4)
-    if len(card) - at != n:
+    if len(card) - at != kind * n:
         raise Refused(1)
-    points = list(struct.unpack('>%db' % n, card[at:]))
-    if any(abs(p) > 100 for p in points) or any(a > b for a, b in zip(points, points[1:])):
+    numbers = struct.unpack('>%db' % (kind * n), card[at:])
+    points = [(numbers[kind * k], numbers[kind * k + 1] if kind == 2 else 0) for k in range(n)]
+    if any(abs(v) > 100 for v in numbers) or any(p > q for p, q in zip(points, points[1:])):
         raise Refused(6)
     return polynomials, points
 
@@ -109,7 +131,7 @@ def printout(card):
     except Refused as r:
         return ['R %d' % r.args[0]]
     s = len(polynomials)
-    values = [[sum(a * x ** k for k, a in enumerate(c)) for c in polynomials] for x in points]
+    values = [[sum(c * x ** a * y ** b for (a, b), c in terms.items()) for terms in polynomials] for x, y in points]
     patterns = [sum((0, 1, 2)[sign(v)] * 3 ** j for j, v in enumerate(at)) for at in values]
     products = [0]
     if points:
@@ -121,13 +143,23 @@ def printout(card):
     return lines + ['E %d' % len(products)]
 
 
+def put_together(kind, bodies, points):
+    at, offsets = 6 + 2 * len(bodies), []
+    for body in bodies:
+        offsets.append(at)
+        at += len(body)
+    head = bytes([kind, len(bodies), len(points) // kind, 0]) + struct.pack('>%dH' % (len(bodies) + 1), *offsets, at)
+    return head + b''.join(bodies) + bytes(p % 256 for p in points)
+
+
 def write(polynomials, points):
-    at, bodies, offsets = 6 + 2 * len(polynomials), b'', []
-    for c in polynomials:
-        offsets.append(at + len(bodies))
-        bodies += bytes([len(c) - 1]) + b''.join(struct.pack('>i', a) for a in c)
-    offsets.append(at + len(bodies))
-    return bytes([1, len(polynomials), len(points), 0]) + struct.pack('>%dH' % len(offsets), *offsets) + bodies + bytes(p % 256 for p in points)
+    return put_together(1, [struct.pack('>B%di' % len(c), len(c) - 1, *c) for c in polynomials], points)
+
+
+def write_plane(polynomials, points):
+    """Of terms, each a power of X, a power of Y and a coefficient, and of pairs."""
+    bodies = [bytes([len(p)]) + b''.join(struct.pack('>BBi', *term) for term in p) for p in polynomials]
+    return put_together(2, bodies, [v for point in points for v in point])
 
 
 def times(a, b):
@@ -149,9 +181,20 @@ def sound(rng, points):
     return write(polynomials, sorted(rng.choice([-100, 100] + 9 * [rng.randint(-20, 20)]) for _ in range(points)))
 
 
-def damaged(rng):
+def sound_plane(rng, points):
+    """Lines, circles, cubics in X or Y and drawn terms, at points of a small square."""
+    polynomials = []
+    for _ in range(rng.randint(1, 8)):
+        k = rng.randint(1, 4)
+        drawn = sorted(rng.sample([(a, b) for a in range(7) for b in range(7 - a)], rng.randint(0, 9)))
+        polynomials.append(rng.choice([[(0, 0, -k), (0, 1, rng.choice([1, -2])), (1, 0, 1)], [(0, 0, -k * k), (0, 2, 1), (2, 0, 1)], [(0, 1, -k), (0, 3, 1)],
+                                       [(1, 0, -k), (3, 0, 1)], [(a, b, rng.choice([-1, 1]) * rng.randint(1, 10 ** 6)) for a, b in drawn]]))
+    return write_plane(polynomials, sorted((rng.randint(-4, 4), rng.randint(-4, 4)) for _ in range(points)))
+
+
+def damaged(rng, drawn=sound):
     """A sound card with a byte changed, cut, or longer."""
-    card = bytearray(sound(rng, rng.choice([0, 3, 10])))
+    card = bytearray(drawn(rng, rng.choice([0, 3, 10])))
     where = rng.choice(['head', 'contents', 'any', 'points', 'cut', 'long'])
     if where == 'cut':
         del card[rng.randint(0, len(card) - 1):]
@@ -178,6 +221,17 @@ def main():
         with open('data/%s.card' % name, 'rb') as given:
             cards.append(given.read())
     cards += [sound(rng, rng.choice([1, 2, 5, 20, 64])) for _ in range(30)] + [damaged(rng) for _ in range(40)]
+    nine = [(a, b, 10 ** 6) for a, b in ((0, 6), (1, 5), (2, 4), (3, 3), (4, 1), (4, 2), (5, 0), (5, 1), (6, 0))]
+    longest = write_plane([nine] * 8, [(k // 8 - 4, k % 8 - 4) for k in range(64)])
+    assert len(longest) == 590
+    cards += [longest, longest[:-1], longest + b'\x64', longest + bytes(200), write_plane([[]], []), write_plane([nine], [(100, 100)] * 64)]
+    for name in ('circle', 'heaviest-plane'):
+        with open('data/%s.card' % name, 'rb') as given:
+            cards.append(given.read())
+    circle = cards[-2]
+    for at, byte in ((0, 3), (3, 1), (5, 11), (7, 30), (10, 10), (11, 7), (12, 255), (13, 1), (18, 0), (28, 0), (43, 101), (42, 0), (46, 255), (51, 127)):
+        cards.append(circle[:at] + bytes([byte]) + circle[at + 1:])
+    cards += [sound_plane(rng, rng.choice([1, 2, 5, 20, 64])) for _ in range(30)] + [damaged(rng, sound_plane) for _ in range(40)]
     data = b''.join(struct.pack('>H', len(c)) + c for c in cards)
     assert len(data) < LIMIT, len(data)
     with open('data/cards', 'wb') as out:

@@ -6,7 +6,7 @@ use libc::STDOUT_FILENO;
 use lines::Line;
 use refusals::LONGEST_CARD;
 
-// More bytes than the longest card has: the printout of an input is that of its first 319 bytes or more (`cut-printout` in
+// More bytes than the longest card has: the printout of an input is that of its first 591 bytes or more (`cut-printout` in
 // printout/proofs/EachLine.antt), so that nothing further need be read.
 const MOST_READ: usize = LONGEST_CARD + 2;
 

@@ -13,7 +13,8 @@ use Rattle.layout.specs.Format.{two's, offset, word}
 use Rattle.layout.specs.Values.{value, valueOf}
 use Rattle.card.specs.declared.Card.the-variants as Card
 use Rattle.card.specs.declared.Stretch.the-variants as Stretch
-use Rattle.card.specs.Card.{anyBelow, contentsRefusal, headerRefusal, polynomialRefusal, coefficientsRefusal, bodiesRefusal}
+use Rattle.integers.specs.Search.{anyBelow}
+use Rattle.card.specs.Card.{contentsRefusal, headerRefusal, polynomialRefusal, coefficientsRefusal, bodiesRefusal}
 use Rattle.card.specs.Card.{pointsRefusal, refusal, positionRefusal}
 use Rattle.card.specs.Answers.{reading, stretch, body}
 use Rattle.card.specs.Finer.{polynomialsBefore, refusalBefore}

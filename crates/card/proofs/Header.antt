@@ -2,7 +2,8 @@
 --
 --   Headed c == what a sound header says: the header's causes are none of them there
 use mathlib.Core.Path.{_≡_, _∙_}
-use mathlib.Core.Bool.{not, _||_}
+use mathlib.Core.Bool.{true, false, not, _||_}
+use mathlib.Core.Logic.{_⊎_}
 use mathlib.Core.List.{List}
 use Prim.Native.Nat.{ℕ, _≤_, _<_}
 use borrow.Author.Tests.{lt-ltb, le-ltb, ltb-false, eq-eqb, ne-eqb}
@@ -11,12 +12,13 @@ use lib.ListN.{length}
 use Rattle.refusals.specs.Numbers.{wrongLength, wrongByte, wrongCount, _when_, _▸_}
 use Rattle.layout.specs.Format.{byte, polynomials, pointCount, offset, bodiesAt}
 use Rattle.card.specs.Card.{contentsRefusal, headerRefusal}
-use Rattle.card.proofs.Causes.{first-none, then-none, holds-not, is-equal}
-use Rattle.card.proofs.Some.{left-false, right-false}
+use Rattle.card.proofs.ByKind.{other, kind-of}
+use Rattle.refusals.proofs.Causes.{first-none, then-none, holds-not, is-equal}
+use Rattle.integers.proofs.Search.{left-false, right-false}
 
 pub record Headed (c : List ℕ) : Type 0 where
   pub long : 4 ≤ length c
-  pub byte0 : byte c 0 ≡ 1
+  pub byte0 : (byte c 0 ≡ 1) ⊎ (byte c 0 ≡ 2)
   pub byte3 : byte c 3 ≡ 0
   pub s-least : 1 ≤ polynomials c
   pub s-most : polynomials c ≤ 8
@@ -29,16 +31,16 @@ module _ (c : List ℕ) where
   unfolding headerRefusal contentsRefusal
   headed e =
       let e1 = then-none (wrongLength when ltb (length c) 4) _ e in
-      let e2 = then-none (wrongByte when (not (eqb (byte c 0) 1) || not (eqb (byte c 3) 0))) _ e1 in
+      let e2 = then-none (wrongByte when (other c || not (eqb (byte c 3) 0))) _ e1 in
       let e3 = then-none (wrongCount when (ltb (polynomials c) 1 || ltb 8 (polynomials c))) _ e2 in
       let e4 = then-none (wrongCount when ltb 64 (pointCount c)) _ e3 in
       let e5 = then-none (wrongLength when ltb (length c) (bodiesAt c)) _ e4 in
-      let t2 = holds-not 1 (not (eqb (byte c 0) 1) || not (eqb (byte c 3) 0)) (first-none _ _ e1) in
+      let t2 = holds-not 1 (other c || not (eqb (byte c 3) 0)) (first-none _ _ e1) in
       let t3 = holds-not 2 (ltb (polynomials c) 1 || ltb 8 (polynomials c)) (first-none _ _ e2) in
       record {
         long = ltb-false (length c) 4 (holds-not 0 (ltb (length c) 4) (first-none _ _ e));
-        byte0 = is-equal (byte c 0) 1 (left-false (not (eqb (byte c 0) 1)) (not (eqb (byte c 3) 0)) t2);
-        byte3 = is-equal (byte c 3) 0 (right-false (not (eqb (byte c 0) 1)) (not (eqb (byte c 3) 0)) t2);
+        byte0 = kind-of (byte c 0) (left-false (other c) (not (eqb (byte c 3) 0)) t2);
+        byte3 = is-equal (byte c 3) 0 (right-false (other c) (not (eqb (byte c 3) 0)) t2);
         s-least = ltb-false (polynomials c) 1 (left-false (ltb (polynomials c) 1) (ltb 8 (polynomials c)) t3);
         s-most = ltb-false 8 (polynomials c) (right-false (ltb (polynomials c) 1) (ltb 8 (polynomials c)) t3);
         n-most = ltb-false 64 (pointCount c) (holds-not 2 (ltb 64 (pointCount c)) (first-none _ _ e3));
@@ -47,14 +49,14 @@ module _ (c : List ℕ) where
       }
 
   module _ (long : 4 ≤ length c) where
-    pub bad-byte0 : (byte c 0 ≡ 1 → ⊥) → headerRefusal c ≡ 2
+    pub bad-byte0 : other c ≡ true → headerRefusal c ≡ 2
     unfolding headerRefusal
-    bad-byte0 h = simp (le-ltb (length c) 4 long, ne-eqb (byte c 0) 1 h)
+    bad-byte0 h = simp (le-ltb (length c) 4 long, h)
 
-    module _ (byte0 : byte c 0 ≡ 1) where
+    module _ (byte0 : other c ≡ false) where
       pub bad-byte3 : (byte c 3 ≡ 0 → ⊥) → headerRefusal c ≡ 2
       unfolding headerRefusal
-      bad-byte3 h = simp (le-ltb (length c) 4 long, eq-eqb (byte c 0) 1 byte0, ne-eqb (byte c 3) 0 h)
+      bad-byte3 h = simp (le-ltb (length c) 4 long, byte0, ne-eqb (byte c 3) 0 h)
 
       module _ (byte3 : byte c 3 ≡ 0) where
         -- the causes after byte 0 and byte 3
@@ -62,7 +64,7 @@ module _ (c : List ℕ) where
             ▸ 3 when ltb 64 (pointCount c)
             ▸ contentsRefusal c)
         unfolding headerRefusal
-        rest = simp (le-ltb (length c) 4 long, eq-eqb (byte c 0) 1 byte0, eq-eqb (byte c 3) 0 byte3)
+        rest = simp (le-ltb (length c) 4 long, byte0, eq-eqb (byte c 3) 0 byte3)
 
         pub no-polynomial : polynomials c < 1 → headerRefusal c ≡ 3
         no-polynomial h = rest ∙ simp (lt-ltb (polynomials c) 1 h)

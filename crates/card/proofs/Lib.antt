@@ -1,10 +1,10 @@
-pub mod Some
-pub mod Causes
-pub mod Header
 pub mod Polynomial
 pub mod Points
+pub mod ByKind
+pub mod Header
 pub mod Bodies
 pub mod Sound
+pub mod OnLine
 pub mod Longest
 pub mod Positions
 pub mod Listed

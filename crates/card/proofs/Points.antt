@@ -3,19 +3,24 @@
 --   wrong c at k   == point k is outside its limits or falling
 --   Low c at k low == low is the point before point k, or the least that a point may be, with 128 added
 use mathlib.Core.Path.{_≡_, refl}
-use mathlib.Core.Bool.{Bool, true, false, _||_}
+use mathlib.Core.Bool.{Bool, true, false, not, _||_}
 use mathlib.Core.Logic.{_⊎_, inl, inr, ⊎-elim}
 use mathlib.Core.List.{List}
 use Prim.Native.Nat.{ℕ, zero, suc, _+_, _≤_, _<_}
 use native.Mathlib.Omega.{arith}
 use native.Mathlib.Numerals.{add-one}
-use borrow.Author.Tests.{eq-eqb, ne-eqb}
+use borrow.Author.Tests.{eq-eqb, ne-eqb, ltb-false}
+use lib.Dec.{eqb}
 use lib.IntN.{ℤ, pos, _+ℤ_}
 use lib.ListN.{length}
 use Rattle.integers.proofs.Parts.{int, sum, parts, side}
 use Rattle.layout.specs.Format.{pointCount, point}
-use Rattle.card.specs.Card.{anyBelow, outside, falling, pointsRefusal}
-use Rattle.card.proofs.Some.{or-left, or-right, or-false, some-true}
+use Rattle.integers.specs.Search.{anyBelow, outside}
+use Rattle.card.specs.Card.{falling, pointsRefusal}
+use Rattle.refusals.specs.Numbers.{_when_}
+use Rattle.refusals.proofs.Causes.{first-none, then-none, holds-not, is-equal}
+use Rattle.integers.proofs.Search.{or-left, or-right, or-false, left-false, right-false, some-true, some-false, none-below}
+use Rattle.card.specs.Kinds.{LinePoints}
 
 abbrev pub wrong : List ℕ → ℕ → ℕ → Bool
 wrong c at k = outside 100 (point c at k) || falling c at k
@@ -71,3 +76,34 @@ module _ (c : List ℕ) (at : ℕ) where
   pub not-full : (length c ≡ at + pointCount c → ⊥) → pointsRefusal c at ≡ 1
   unfolding pointsRefusal
   not-full h = simp (ne-eqb (length c) (at + pointCount c) h)
+
+  -- ---- points that no number refuses, and sound ones
+  full : pointsRefusal c at ≡ 0 → length c ≡ at + pointCount c
+  unfolding pointsRefusal
+  full e = is-equal _ _ (holds-not 0 (not (eqb (length c) (at + pointCount c))) (first-none _ _ e))
+
+  none-wrong : pointsRefusal c at ≡ 0 → (k : ℕ) → k < pointCount c → wrong c at k ≡ false
+  unfolding pointsRefusal
+  none-wrong e k h =
+      some-false (wrong c at) (pointCount c)
+      (holds-not 5 (anyBelow (wrong c at) (pointCount c)) (then-none (1 when not (eqb (length c) (at + pointCount c))) _ e)) k h
+
+  not-wrong : (k : ℕ) → outside 100 (point c at k) ≡ false → falling c at k ≡ false → wrong c at k ≡ false
+  not-wrong k p q = or-false _ _ p q
+
+  pub line-points : pointsRefusal c at ≡ 0 → LinePoints c at
+  line-points e =
+      record {
+        ends = full e;
+        limits = λ k g. ltb-false 100 _ (left-false _ (falling c at k) (none-wrong e k g));
+        rising = λ k g. let f : falling c at (suc k) ≡ false =
+            right-false (outside 100 (point c at (suc k))) _ (none-wrong e (suc k) g) in
+            omega int;
+      }
+
+  pub unrefused-points : LinePoints c at → pointsRefusal c at ≡ 0
+  unrefused-points p = good-points (p .ends) (none-below (wrong c at) (pointCount c) fine)
+    where
+      fine : (k : ℕ) → k < pointCount c → wrong c at k ≡ false
+      fine zero g = not-wrong zero (let m = p .limits zero g in omega int) refl
+      fine (suc k) g = not-wrong (suc k) (let m = p .limits (suc k) g in omega int) (let m = p .rising k g in omega int)

@@ -12,10 +12,11 @@ use lib.ListN.{length}
 use Rattle.integers.proofs.Abs.{abs-zero}
 use Rattle.refusals.specs.Numbers.{_when_, _▸_}
 use Rattle.layout.specs.Format.{degree, size, coefficient, two's}
-use Rattle.card.specs.Card.{anyBelow, outside, coefficientsRefusal, polynomialRefusal}
+use Rattle.integers.specs.Search.{anyBelow, outside}
+use Rattle.card.specs.Card.{coefficientsRefusal, polynomialRefusal}
 use Rattle.layout.specs.Body.{Whole, Small, Body}
-use Rattle.card.proofs.Some.{some-true, some-false, none-below}
-use Rattle.card.proofs.Causes.{first-none, then-none, holds-not}
+use Rattle.integers.proofs.Search.{some-true, some-false, none-below}
+use Rattle.refusals.proofs.Causes.{first-none, then-none, holds-not}
 use Rattle.layout.proofs.Twos.{below-or, abs-low, abs-high}
 
 -- four bytes stand for 0 only where all are 0

@@ -1,48 +1,45 @@
 -- The sound cards are those that no number refuses: `sound` and `unrefused`.
 use mathlib.Core.Path.{_≡_, refl, sym, subst, _∙_}
-use mathlib.Core.Bool.{false, not}
+use mathlib.Core.Bool.{not}
 use mathlib.Core.Logic.{_⊎_, ⊎-elim}
 use mathlib.Core.List.{List}
 use Prim.Native.Nat.{ℕ, zero, suc, _+_, _≤_, _<_}
 use native.Mathlib.Omega.{arith}
-use borrow.Author.Tests.{ltb-false, eq-eqb}
+use borrow.Author.Tests.{eq-eqb}
 use lib.Dec.{eqb}
-use lib.ListN.{length}
-use Rattle.integers.proofs.Parts.{int}
 use Rattle.integers.proofs.Tests.{eq-cases}
 use Rattle.refusals.specs.Numbers.{_when_, _▸_}
-use Rattle.layout.specs.Format.{polynomials, pointCount, offset, bodiesAt, size, point}
-use Rattle.card.specs.Card.{anyBelow, outside, falling, headerRefusal, polynomialRefusal, bodiesRefusal, pointsRefusal, refusal}
+use Rattle.refusals.proofs.Causes.{first-none, then-none, holds-not, is-equal}
+use Rattle.layout.specs.Format.{polynomials, offset, bodiesAt}
+use Rattle.card.specs.Kinds.{bodySize}
+use Rattle.card.specs.Card.{headerRefusal, bodyRefusal, bodiesRefusal, endRefusal, refusal}
 use Rattle.card.specs.Sound.{Sound}
-use Rattle.card.proofs.Some.{or-false, left-false, right-false, some-false, none-below}
-use Rattle.card.proofs.Causes.{first-none, then-none, holds-not, is-equal}
 use Rattle.card.proofs.Header.{Headed, headed, sound-counts, sound-contents}
-use Rattle.card.proofs.Polynomial.{body, unrefused-polynomial}
-use Rattle.card.proofs.Points.{wrong, good-points}
+use Rattle.card.proofs.ByKind.{of-kind, fits, sound-body, unrefused-body, sound-points, unrefused-end}
 
 module _ (c : List ℕ) where
   -- ---- the polynomials from j on
   abbrev At : ℕ → Type 0
-  At i = (polynomialRefusal c (offset c i) ≡ 0) × (offset c (suc i) ≡ offset c i + size c (offset c i))
+  At i = (bodyRefusal c (offset c i) ≡ 0) × (offset c (suc i) ≡ offset c i + bodySize c (offset c i))
 
   step : (k j : ℕ) → bodiesRefusal c (suc k) j (offset c j) ≡ 0
-      → (polynomialRefusal c (offset c j) ▸ (4 when not (eqb (offset c (suc j)) (offset c j + size c (offset c j)))
-      ▸ bodiesRefusal c k (suc j) (offset c j + size c (offset c j)))) ≡ 0
+      → (bodyRefusal c (offset c j) ▸ (4 when not (eqb (offset c (suc j)) (offset c j + bodySize c (offset c j)))
+      ▸ bodiesRefusal c k (suc j) (offset c j + bodySize c (offset c j)))) ≡ 0
   unfolding bodiesRefusal
   step k j e = e
 
   step-at : (k j : ℕ) → bodiesRefusal c (suc k) j (offset c j) ≡ 0 → At j
   step-at k j e =
-      let b = then-none (polynomialRefusal c (offset c j)) _ (step k j e) in (
+      let b = then-none (bodyRefusal c (offset c j)) _ (step k j e) in (
         first-none _ _ (step k j e),
-        is-equal _ _ (holds-not 3 (not (eqb (offset c (suc j)) (offset c j + size c (offset c j)))) (first-none _ _ b)),
+        is-equal _ _ (holds-not 3 (not (eqb (offset c (suc j)) (offset c j + bodySize c (offset c j)))) (first-none _ _ b)),
       )
 
   step-rest : (k j : ℕ) → bodiesRefusal c (suc k) j (offset c j) ≡ 0 → bodiesRefusal c k (suc j) (offset c (suc j)) ≡ 0
   step-rest k j e =
-      let b = then-none (polynomialRefusal c (offset c j)) _ (step k j e) in
+      let b = then-none (bodyRefusal c (offset c j)) _ (step k j e) in
       subst (λ (a : ℕ). bodiesRefusal c k (suc j) a ≡ 0) (sym (step-at k j e .1))
-      (then-none (4 when not (eqb (offset c (suc j)) (offset c j + size c (offset c j)))) _ b)
+      (then-none (4 when not (eqb (offset c (suc j)) (offset c j + bodySize c (offset c j)))) _ b)
 
   each : (k j : ℕ) → bodiesRefusal c k j (offset c j) ≡ 0 → (i : ℕ) → j ≤ i → i < j + k → At i
   each zero j e i l h = absurd (omega arith)
@@ -51,12 +48,12 @@ module _ (c : List ℕ) where
       (λ w. each k (suc j) (step-rest k j e) i (omega (arith, w .0)) (omega arith))
       (eq-cases j i)
 
-  at-last : (k j : ℕ) → bodiesRefusal c k j (offset c j) ≡ 0 → pointsRefusal c (offset c (j + k)) ≡ 0
+  at-last : (k j : ℕ) → bodiesRefusal c k j (offset c j) ≡ 0 → endRefusal c (offset c (j + k)) ≡ 0
   unfolding bodiesRefusal
   at-last zero j e = let z : j + 0 ≡ j = omega arith in rw z e
   at-last (suc k) j e = let z : j + suc k ≡ suc j + k = omega arith in rw z (at-last k (suc j) (step-rest k j e))
 
-  all : (k j : ℕ) → ((i : ℕ) → j ≤ i → i < j + k → At i) → pointsRefusal c (offset c (j + k)) ≡ 0 → bodiesRefusal c k j (offset c j) ≡ 0
+  all : (k j : ℕ) → ((i : ℕ) → j ≤ i → i < j + k → At i) → endRefusal c (offset c (j + k)) ≡ 0 → bodiesRefusal c k j (offset c j) ≡ 0
   unfolding bodiesRefusal
   all zero j f e = let z : j + 0 ≡ j = omega arith in rw z at e
   all (suc k) j f e =
@@ -64,20 +61,6 @@ module _ (c : List ℕ) where
       let z : j + suc k ≡ suc j + k = omega arith in
       let r = all k (suc j) (λ i l h. f i (omega arith) (omega arith)) (rw z at e) in
       rw (a .0, eq-eqb _ _ (a .1), ← a .1) r
-
-  -- ---- the points
-  full : (at : ℕ) → pointsRefusal c at ≡ 0 → length c ≡ at + pointCount c
-  unfolding pointsRefusal
-  full at e = is-equal _ _ (holds-not 0 (not (eqb (length c) (at + pointCount c))) (first-none _ _ e))
-
-  right : (at : ℕ) → pointsRefusal c at ≡ 0 → (k : ℕ) → k < pointCount c → wrong c at k ≡ false
-  unfolding pointsRefusal
-  right at e k h =
-      some-false (wrong c at) (pointCount c)
-      (holds-not 5 (anyBelow (wrong c at) (pointCount c)) (then-none (1 when not (eqb (length c) (at + pointCount c))) _ e)) k h
-
-  not-wrong : (at k : ℕ) → outside 100 (point c at k) ≡ false → falling c at k ≡ false → wrong c at k ≡ false
-  not-wrong at k p q = or-false _ _ p q
 
   -- ---- the whole card
   split : refusal c ≡ 0 → (headerRefusal c ▸ bodiesRefusal c (polynomials c) 0 (bodiesAt c)) ≡ 0
@@ -101,30 +84,20 @@ module _ (c : List ℕ) where
         s-most = h .s-most;
         n-most = h .n-most;
         begins = h .begins;
-        body = λ j g. body c (offset c j) (a j (omega arith) (omega arith) .0);
+        body = λ j g. sound-body c (offset c j) (a j (omega arith) (omega arith) .0);
         follows = λ j g. a j (omega arith) (omega arith) .1;
-        ends = full (offset c (polynomials c)) l;
-        limits = λ k g. ltb-false 100 _ (left-false _ (falling c (offset c (polynomials c)) k) (right (offset c (polynomials c)) l k g));
-        rising = λ k g. let f : falling c (offset c (polynomials c)) (suc k) ≡ false =
-            right-false (outside 100 (point c (offset c (polynomials c)) (suc k))) _ (right (offset c (polynomials c)) l (suc k) g) in
-            omega int;
+        points = sound-points c (offset c (polynomials c)) l;
       }
 
   pub unrefused : Sound c → refusal c ≡ 0
   unfolding refusal
   unrefused s =
-      let b = s .body 0 (s .s-least) in
-      let w = b .small .whole in
+      let w = fits c (offset c 0) (unrefused-body c (offset c 0) (s .kind) (s .body 0 (s .s-least))) in
       let h : headerRefusal c ≡ 0 =
-      sound-counts c (omega arith) (s .kind) (s .zero) (s .s-least) (s .s-most) (s .n-most)
-      ∙ sound-contents c (omega (arith, s .begins)) (s .begins) in
+      sound-counts c (omega (arith, w .begins, s .begins)) (of-kind c (s .kind)) (s .zero) (s .s-least) (s .s-most) (s .n-most)
+      ∙ sound-contents c (omega (arith, w .begins, s .begins)) (s .begins) in
       let z : 0 + polynomials c ≡ polynomials c = omega arith in
-      let l : pointsRefusal c (offset c (0 + polynomials c)) ≡ 0 =
-      rw z (good-points c (offset c (polynomials c)) (s .ends) (none-below (wrong c (offset c (polynomials c))) (pointCount c) (fine s))) in
+      let l : endRefusal c (offset c (0 + polynomials c)) ≡ 0 = rw z (unrefused-end c (offset c (polynomials c)) (s .kind) (s .points)) in
       let r = all (polynomials c) 0
-      (λ i g k. (unrefused-polynomial c (offset c i) (s .body i (omega arith)), s .follows i (omega arith))) l in
+      (λ i g k. (unrefused-body c (offset c i) (s .kind) (s .body i (omega arith)), s .follows i (omega arith))) l in
       rw h (rw (s .begins) at r)
-    where
-      fine : Sound c → (k : ℕ) → k < pointCount c → wrong c (offset c (polynomials c)) k ≡ false
-      fine s zero g = not-wrong _ zero (let m = s .limits zero g in omega int) refl
-      fine s (suc k) g = not-wrong _ (suc k) (let m = s .limits (suc k) g in omega int) (let m = s .rising k g in omega int)

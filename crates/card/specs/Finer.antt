@@ -1,5 +1,6 @@
 -- Which number refuses a card for a wrong polynomial (document 02, wish 1: "5 stays for a coefficient outside its limits. All other cards
--- are refused as before"), in words of its own. That it holds of every card is proofs/Finer.antt.
+-- are refused as before"; wish 6: 18, and 5 after it), in words of its own. That `Finer` holds of every card that is not of points in the
+-- plane, and `PlaneFiner` of those, is proofs/Finer.antt.
 --
 --   Reached c j                == the checks come to polynomial j: no number refuses the header and the contents, and each polynomial
 --                                 before it is sound, with the next offset where its body ends
@@ -10,11 +11,12 @@
 --   refusalBefore c            == the number that refuses the card c by document 01's own "Card order", or 0; for this claim only
 --   polynomialsBefore c k j at == the number that refuses it by that order from polynomial j on, whose body begins at byte `at`, or 0;
 --                                 there are k polynomials left
---   Finer c                    == each of 5, 16 and 17 refuses the card c exactly for its cause, and with 16 and 17 read as 5 its number is
---                                 document 01's
+--   Finer c                    == each of 5, 16 and 17 refuses the card c exactly for its cause, with 16 and 17 read as 5 its number is
+--                                 document 01's, and 18 is not
+--   PlaneFiner c               == of 18 and 5 each refuses the card c exactly for its cause, and neither 16 nor 17 does
 use mathlib.Core.Path.{_≡_}
 use mathlib.Core.Bool.{cond, not, _||_, _&&_}
-use mathlib.Core.Logic.{_↔_}
+use mathlib.Core.Logic.{_↔_, _⊎_, _≢_}
 use mathlib.Core.List.{List}
 use Prim.Native.Nat.{ℕ, zero, suc, _+_, _≤_, _<_}
 use lib.Dec.{ltb, leb, eqb}
@@ -22,15 +24,19 @@ use lib.IntN.{pos, natAbs}
 use lib.ListN.{length}
 use Rattle.refusals.specs.Numbers.{_when_, _▸_}
 use Rattle.layout.specs.Format.{byte, polynomials, pointCount, offset, bodiesAt, degree, size, coefficient, point}
-use Rattle.layout.specs.Body.{Whole, Small, Body}
-use Rattle.card.specs.Card.{anyBelow, outside, falling, headerRefusal, refusal}
+use Rattle.layout.specs.Body.{Whole, Small}
+use Rattle.plane.specs.Body.{WholePlane, Terms, PlaneBody}
+use Rattle.plane_checks.specs.Claim.{ManyTerms}
+use Rattle.integers.specs.Search.{anyBelow, outside}
+use Rattle.card.specs.Kinds.{bodySize, SoundBody}
+use Rattle.card.specs.Card.{falling, headerRefusal, refusal}
 
 -- ---- the causes
 pub record Reached (c : List ℕ) (j : ℕ) : Type 0 where
   pub header : headerRefusal c ≡ 0
   pub below : j < polynomials c
-  pub body : (i : ℕ) → i < j → Body c (offset c i)
-  pub follows : (i : ℕ) → i < j → offset c (suc i) ≡ offset c i + size c (offset c i)
+  pub body : (i : ℕ) → i < j → SoundBody c (offset c i)
+  pub follows : (i : ℕ) → i < j → offset c (suc i) ≡ offset c i + bodySize c (offset c i)
 
 abbrev pub HighDegree : List ℕ → ℕ → Type 0
 HighDegree c at = (at < length c) × (6 < degree c at)
@@ -81,3 +87,13 @@ pub record Finer (c : List ℕ) : Type 0 where
   pub seventeen : (refusal c ≡ 17) ↔ ((j : ℕ) × Reached c j × ZeroTop c (offset c j))
   -- "All other cards are refused as before"
   pub as-before : coarse (refusal c) ≡ refusalBefore c
+  pub no-18 : refusal c ≢ 18
+
+pub record PlaneFiner (c : List ℕ) : Type 0 where
+  -- "18, t above 9, where 16 stands for the line; .. then 18 again for powers too high, terms not rising or a coefficient of 0"
+  pub eighteen : (refusal c ≡ 18) ↔ ((j : ℕ) × Reached c j
+      × (ManyTerms c (offset c j) ⊎ (WholePlane c (offset c j) × (Terms c (offset c j) → ⊥))))
+  -- "then coefficient limits by 5"
+  pub five : (refusal c ≡ 5) ↔ ((j : ℕ) × Reached c j × (Terms c (offset c j) × (PlaneBody c (offset c j) → ⊥)))
+  pub no-16 : refusal c ≢ 16
+  pub no-17 : refusal c ≢ 17

@@ -1,3 +1,4 @@
+pub mod Kinds
 pub mod Card
 pub mod Sound
 pub mod Answers

@@ -1,17 +1,26 @@
-// The checks of a card, in the card's order (document 01, "Card order"; document 02, wish 1). Each answers the number of the first cause, or 0.
+// The checks of a card, in the card's order (document 01, "Card order"; document 02, wishes 1 and 6). Each answers the number of the first cause, or 0.
+// Those of one polynomial in the plane, and of such points, are in the crate `plane_checks`.
 ghost use mathlib.Core.Path.{_≡_};
-ghost use Prim.Native.Nat.{_+_, _≤_};
+ghost use mathlib.Core.Bool.{not, _||_};
+ghost use lib.Dec.{eqb};
+ghost use Prim.Native.Nat.{_+_, _≤_, _<_};
 ghost use lib.IntN.{pos, _+ℤ_};
 ghost use lib.ListN.{length};
 ghost use Rattle.refusals.specs.Limits.{mostCoefficient};
 ghost use Rattle.layout.specs.Format.{polynomials, pointCount, bodiesAt, two's};
 ghost use Rattle.layout.specs.Body.{Whole};
-ghost use Rattle.card.specs.Card.{contentsRefusal, headerRefusal, pointsRefusal, coefficientsRefusal, polynomialRefusal, bodiesRefusal, refusal, positionRefusal, outside};
+ghost use Rattle.integers.specs.Search.{outside};
+ghost use Rattle.card.specs.Kinds.{bodySize};
+ghost use Rattle.card.specs.Card.{contentsRefusal, headerRefusal, pointsRefusal, coefficientsRefusal, polynomialRefusal, bodyRefusal, endRefusal};
+ghost use Rattle.card.specs.Card.{bodiesRefusal, refusal, positionRefusal, kindRefusal, placeRefusal};
+use integers::magnitude;
 use layout::bodies_at;
 use layout::offset;
 use layout::size;
 use layout::wide;
 use layout::word;
+use plane::PLANE;
+use plane::is_plane;
 use refusals::MOST_COEFFICIENT;
 use refusals::NONE;
 use refusals::PAST_LAST;
@@ -23,6 +32,9 @@ use refusals::WRONG_LENGTH;
 use refusals::WRONG_OFFSET;
 use refusals::WRONG_POINT;
 use refusals::ZERO_TOP;
+
+// Byte 0 of a card of points on the line.
+const LINE: u8 = 1;
 
 // The limits, as bytes and words of a card have them.
 const MOST_POLYNOMIALS: u8 = refusals::MOST_POLYNOMIALS as u8;
@@ -36,6 +48,8 @@ const LEAST_COEFFICIENT: u32 = 0xffff_ffff - MOST_COEFFICIENT + 1; // two's comp
 const LEAST_POINT: u8 = 128 - refusals::MOST_POINT; // with 128 added
 
 const MOST_POINT: u8 = 128 + refusals::MOST_POINT; // with 128 added
+
+const FARTHEST: u64 = refusals::MOST_POINT as u64;
 
 // The contents, up to the first offset.
 fn check_contents(card: &[u8]) -> u16
@@ -52,6 +66,16 @@ fn check_contents(card: &[u8]) -> u16
     NONE
 }
 
+// Whether a card is of neither kind, by byte 0.
+fn is_other(kind: u8) -> bool
+    ensures { λ r. ⌜ r ≡ not (eqb kind 1 || eqb kind 2) ⌝ }
+{
+    if kind == LINE {
+        return false;
+    }
+    kind != PLANE
+}
+
 // The header and the contents.
 fn check_header(card: &[u8]) -> u16
     ensures { λ r. ⌜ r ≡ headerRefusal (now (card .entry)) ⌝ }
@@ -59,7 +83,7 @@ fn check_header(card: &[u8]) -> u16
     if card.len() < 4 {
         return WRONG_LENGTH;
     }
-    if card[0] != 1 {
+    if is_other(card[0]) {
         return WRONG_BYTE;
     }
     if card[3] != 0 {
@@ -110,7 +134,7 @@ fn check_coefficients(card: &[u8], at: usize) -> u16
     NONE
 }
 
-// One polynomial, whose body begins at byte at.
+// One polynomial on a card of points on the line, whose body begins at byte at.
 fn check_polynomial(card: &[u8], at: usize) -> u16
     ensures { λ r. ⌜ r ≡ polynomialRefusal (now (card .entry)) at ⌝ }
 {
@@ -136,7 +160,7 @@ fn biased(b: u8) -> u8
     b - 128
 }
 
-// The points, which begin at byte at: each within its limits, none below the one before it.
+// Points on the line, which begin at byte at: each within its limits, none below the one before it.
 fn check_points(card: &[u8], at: usize) -> u16
     requires { ⌜ (4 ≤ length (now card)) × (length (now card) ≡ at + pointCount (now card)) ⌝ }
     ensures { λ r. ⌜ r ≡ pointsRefusal (now (card .entry)) at ⌝ }
@@ -158,7 +182,7 @@ fn check_points(card: &[u8], at: usize) -> u16
     NONE
 }
 
-// The bytes that are left, of which the points begin at byte at.
+// The bytes that are left on a card of points on the line, of which the points begin at byte at.
 fn check_rest(card: &[u8], at: usize) -> u16
     requires { ⌜ (4 ≤ length (now card)) × (at ≤ length (now card)) ⌝ }
     ensures { λ r. ⌜ r ≡ pointsRefusal (now (card .entry)) at ⌝ }
@@ -167,6 +191,39 @@ fn check_rest(card: &[u8], at: usize) -> u16
         return WRONG_LENGTH;
     }
     check_points(card, at)
+}
+
+// How many bytes the body of the polynomial that begins at byte at has.
+pub fn body_size(card: &[u8], at: usize) -> usize
+    requires { ⌜ at < length (now card) ⌝ }
+    ensures { λ r. ⌜ r ≡ bodySize (now (card .entry)) at ⌝ }
+{
+    if is_plane(card) {
+        return plane::size(card, at);
+    }
+    size(card, at)
+}
+
+// One polynomial, whose body begins at byte at, on a card of either kind.
+fn check_body(card: &[u8], at: usize) -> u16
+    requires { ⌜ 1 ≤ length (now card) ⌝ }
+    ensures { λ r. ⌜ r ≡ bodyRefusal (now (card .entry)) at ⌝ }
+{
+    if is_plane(card) {
+        return plane_checks::check_polynomial(card, at);
+    }
+    check_polynomial(card, at)
+}
+
+// The bytes that are left on a card of either kind, of which the points begin at byte at.
+fn check_end(card: &[u8], at: usize) -> u16
+    requires { ⌜ (4 ≤ length (now card)) × (at ≤ length (now card)) ⌝ }
+    ensures { λ r. ⌜ r ≡ endRefusal (now (card .entry)) at ⌝ }
+{
+    if is_plane(card) {
+        return plane_checks::check_rest(card, at);
+    }
+    check_rest(card, at)
 }
 
 // The bodies, after a sound header: each polynomial and the offset after it, then the points.
@@ -178,17 +235,17 @@ fn check_bodies(card: &[u8]) -> u16
     let mut at = bodies_at(card);
     let mut j = 0;
     while j < s {
-        let number = check_polynomial(card, at);
+        let number = check_body(card, at);
         if number != NONE {
             return number;
         }
-        at += size(card, at);
+        at += body_size(card, at);
         j += 1;
         if offset(card, j) != at {
             return WRONG_OFFSET;
         }
     }
-    check_rest(card, at)
+    check_end(card, at)
 }
 
 // The number of the first cause that refuses a card, or 0 where it is sound.
@@ -212,6 +269,36 @@ pub fn check_position(card: &[u8], j: usize) -> u16
     }
     if wide(card[1]) <= j {
         return PAST_LAST;
+    }
+    NONE
+}
+
+// The number that refuses a card, or 0, where one of points on the line is wanted, as far as byte 0 tells.
+pub fn check_kind(card: &[u8]) -> u16
+    ensures { λ r. ⌜ r ≡ kindRefusal (now (card .entry)) ⌝ }
+{
+    if card.len() < 4 {
+        return WRONG_LENGTH;
+    }
+    if card[0] != LINE {
+        return WRONG_BYTE;
+    }
+    NONE
+}
+
+// The number that refuses a card, position j of a polynomial on it or the point (x, y), or 0.
+pub fn check_place(card: &[u8], j: usize, x: i64, y: i64) -> u16
+    ensures { λ r. ⌜ r ≡ placeRefusal (now (card .entry)) j (x, y) ⌝ }
+{
+    let number = check_position(card, j);
+    if number != NONE {
+        return number;
+    }
+    if FARTHEST < magnitude(x) {
+        return WRONG_POINT;
+    }
+    if FARTHEST < magnitude(y) {
+        return WRONG_POINT;
     }
     NONE
 }

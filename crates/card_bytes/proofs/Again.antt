@@ -14,9 +14,10 @@ use Rattle.signs.proofs.Positions.{below-at}
 use Rattle.layout.specs.Format.{byte, two's, polynomials, pointCount, offset, bodiesAt, degree, size, word, coefficient, pointsAt, pointOf}
 use Rattle.layout.specs.Body.{Body}
 use Rattle.layout.proofs.Contents.{upTo-long, map-upTo-at, points-long, map-point-at}
-use Rattle.card.specs.Card.{anyBelow, outside, coefficientsRefusal, refusal}
-use Rattle.card.specs.Sound.{Sound}
-use Rattle.card.proofs.Some.{none-below}
+use Rattle.integers.specs.Search.{anyBelow, outside}
+use Rattle.card.specs.Card.{coefficientsRefusal, refusal}
+use Rattle.card.proofs.OnLine.{LineSound, of-sound}
+use Rattle.integers.proofs.Search.{none-below}
 use Rattle.card.proofs.Polynomial.{whole-body, unrefused-polynomial}
 use Rattle.card.proofs.Sound.{sound}
 use Rattle.card_bytes.specs.Bytes.{bytes, complement, bodySize, wanted, bodiesFrom, offsets, body, bodies, cardBytes}
@@ -106,7 +107,7 @@ module _ (c : List ℕ) where
       )
       r
 
-  module _ (s : Sound c) where
+  module _ (s : LineSound c) where
     degrees-none : some (ltb 6) (degreesOf c) ≡ false
     unfolding degreesOf
     degrees-none =
@@ -189,7 +190,7 @@ module _ (c : List ℕ) where
 
     -- ---- the parts of an accepted card
 
-    module _ (s : Sound c) where
+    module _ (s : LineSound c) where
       header-long : bodiesAt c < length c
       header-long = let b = s .body 0 (s .s-least) .small .whole .begins in omega (arith, s .begins)
 
@@ -232,4 +233,6 @@ module _ (c : List ℕ) where
 -- ---- the whole
 
 pub read-written : (c : List ℕ) → Below 256 c → byte c 0 ≡ 1 → refusal c ≡ 0 → IsWritten c
-read-written c small kind e = let s = sound c e in record { accepted = read-accepted c s; again = written-again c small s }
+read-written c small kind e =
+    let s = of-sound c (sound c e) kind in
+    record { accepted = read-accepted c s; again = written-again c small s }

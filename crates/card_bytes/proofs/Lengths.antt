@@ -9,7 +9,7 @@ use lib.Dec.{ltb}
 use lib.IntN.{ℤ}
 use lib.ListN.{length, take, drop, length-append, length-map, length-drop}
 use lib.Seq.{length-take-le}
-use Rattle.card.proofs.Some.{left-false, right-false}
+use Rattle.integers.proofs.Search.{left-false, right-false}
 use Rattle.card_bytes.specs.Bytes.{bytes, complement, wanted, bodiesFrom, offsets, body, bodies, cardBytes}
 use Rattle.card_bytes.specs.Causes.{some}
 

@@ -13,9 +13,9 @@ use lib.ListN.{length, getD, take, drop}
 use lib.Signed.{_≤ℤ_}
 use Rattle.integers.proofs.Parts.{int}
 use Rattle.refusals.specs.Numbers.{isAmong, _when_, _▸_}
-use Rattle.card.specs.Card.{outside}
-use Rattle.card.proofs.Some.{or-false, left-false, right-false}
-use Rattle.card.proofs.Causes.{is-equal}
+use Rattle.integers.specs.Search.{outside}
+use Rattle.integers.proofs.Search.{or-false, left-false, right-false}
+use Rattle.refusals.proofs.Causes.{is-equal}
 use Rattle.card_bytes.specs.Bytes.{wanted}
 use Rattle.card_bytes.specs.Causes.{some, below, wrongPoints, polynomialCause, polynomialsCause, writeCause}
 use Rattle.card_bytes.specs.Lists.{part}

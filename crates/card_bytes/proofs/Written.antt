@@ -17,7 +17,7 @@ use Rattle.polynomials.specs.Values.{evaluate}
 use Rattle.layout.specs.Format.{byte, two's, polynomials, pointCount, offset, degree, coefficient, pointsAt, pointOf}
 use Rattle.layout.specs.Body.{Body}
 use Rattle.layout.specs.Values.{value}
-use Rattle.card.specs.Sound.{Sound}
+use Rattle.card.proofs.OnLine.{LineSound, to-sound}
 use Rattle.card_bytes.specs.Bytes.{bytes, complement, wanted, bodySize, bodiesFrom, offsets, body, bodies, cardBytes}
 use Rattle.card_bytes.specs.Causes.{writeCause}
 use Rattle.card_bytes.specs.Lists.{degreesOf, coefficientsOf, part}
@@ -239,7 +239,7 @@ module _ (ds : List ℕ) (cs ps : List ℤ) where
         ∙ ap (two's 128) (point-byte k)
         ∙ twos-complement 128 (getD ps k (pos 0)) (omega (arith, w .points .limits k h))
 
-    card-sound : Sound c
+    card-sound : LineSound c
     card-sound =
         let (s, n) = card-counts in
         let l = w .fitting .long in
@@ -267,7 +267,8 @@ module _ (ds : List ℕ) (cs ps : List ℤ) where
         let (s, n) = card-counts in
         let l = w .fitting .long in
         record {
-          sound = card-sound;
+          sound = to-sound c card-sound;
+          line = card-sound .kind;
           degrees = map-upTo-is (λ j. degree c (offset c j)) (polynomials c) ds 0 s (λ j h. stands j h .has-degree);
           coefficients =
               ap (λ (k : ℕ). flatMap (λ j. map (coefficient c (offset c j)) (upTo (degree c (offset c j) + 1))) (upTo k)) s

@@ -17,7 +17,7 @@ use lib.ListN.{length, getD, take, drop}
 use lib.Signed.{ltZ}
 use Rattle.refusals.specs.Numbers.{wrongLength, wrongCount, wrongCoefficient, wrongPoint, wrongDegree, zeroTop, _when_, _▸_}
 use Rattle.refusals.specs.Limits.{mostPolynomials, mostPoints, mostDegree, mostCoefficient, mostPoint}
-use Rattle.card.specs.Card.{outside}
+use Rattle.integers.specs.Search.{outside}
 use Rattle.card_bytes.specs.Bytes.{wanted}
 
 unfoldable pub some : {A : Type 0} → (A → Bool) → List A → Bool

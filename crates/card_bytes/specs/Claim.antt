@@ -10,7 +10,8 @@
 --   Rising ps           == each point is from −100 to 100, and none is below the one before it
 --   Writable ds cs ps   == nothing refuses them
 --   Refuses ds cs ps m  == the number m, or 0, is given exactly for its cause, in the order of the wish
---   IsRead ds cs ps c   == the card c is sound, and read to the degrees ds, the coefficients cs and the points ps: the same contents
+--   IsRead ds cs ps c   == the card c is a sound card of points on the line, and read to the degrees ds, the coefficients cs and the points
+--                          ps: the same contents
 --   IsWritten c         == the card c is, byte for byte, what is written of the degrees, coefficients and points read from it
 use mathlib.Core.Path.{_≡_}
 use mathlib.Core.Logic.{_↔_}
@@ -20,7 +21,8 @@ use lib.IntN.{ℤ, pos, natAbs}
 use lib.ListN.{length, getD}
 use lib.Signed.{_≤ℤ_}
 use Rattle.refusals.specs.Numbers.{Among}
-use Rattle.layout.specs.Contents.{contentsOf}
+use Rattle.layout.specs.Format.{byte}
+use Rattle.layout.specs.Contents.{lineContents}
 use Rattle.card.specs.Sound.{Sound}
 use Rattle.card_bytes.specs.Bytes.{wanted, cardBytes}
 use Rattle.card_bytes.specs.Causes.{writeCause}
@@ -80,9 +82,10 @@ pub record Refuses (ds : List ℕ) (cs ps : List ℤ) (m : ℕ) : Type 0 where
 -- "Each written card is read to the same polynomials and points"
 pub record IsRead (ds : List ℕ) (cs ps : List ℤ) (c : List ℕ) : Type 0 where
   pub sound : Sound c
+  pub line : byte c 0 ≡ 1
   pub degrees : degreesOf c ≡ ds
   pub coefficients : coefficientsOf c ≡ cs
-  pub contents : Same (contentsOf c) (contentsBy ds cs ps)
+  pub contents : Same (lineContents c) (contentsBy ds cs ps)
 
 -- "and each accepted card is what the writer makes of them"
 pub record IsWritten (c : List ℕ) : Type 0 where

@@ -15,7 +15,7 @@ use Rattle.signs.specs.Lists.{upTo}
 use Rattle.polynomials.specs.Values.{evaluate}
 use Rattle.contents.specs.Contents.{Contents}
 use Rattle.layout.specs.Format.{polynomials, offset, degree, coefficient}
-use Rattle.layout.specs.Contents.{contentsOf}
+use Rattle.layout.specs.Contents.{lineContents}
 
 unfoldable pub degreesOf : List ℕ → List ℕ
 degreesOf c = map (λ j. degree c (offset c j)) (upTo (polynomials c))
@@ -24,7 +24,7 @@ unfoldable pub coefficientsOf : List ℕ → List ℤ
 coefficientsOf c = flatMap (λ j. map (coefficient c (offset c j)) (upTo (degree c (offset c j) + 1))) (upTo (polynomials c))
 
 abbrev pub pointsOf : List ℕ → List ℤ
-pointsOf c = contentsOf c .points
+pointsOf c = lineContents c .points
 
 unfoldable pub part : List ℕ → List ℤ → ℕ → List ℤ
 part [] cs j = []

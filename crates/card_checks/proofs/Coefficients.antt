@@ -9,7 +9,7 @@ use lib.ListN.{getD}
 use Rattle.integers.proofs.Abs.{abs-zero}
 use Rattle.refusals.specs.Numbers.{wrongCoefficient, zeroTop}
 use Rattle.refusals.specs.Limits.{mostCoefficient}
-use Rattle.card.specs.Card.{outside}
+use Rattle.integers.specs.Search.{outside}
 use Rattle.card_bytes.specs.Causes.{some, polynomialCause}
 
 module _ (d : ℕ) (l : List ℤ) where

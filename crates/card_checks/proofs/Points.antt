@@ -8,7 +8,7 @@ use lib.ListN.{length, getD, drop, drop-of-length-le}
 use lib.Seq.{drop-cons}
 use lib.Signed.{ltZ}
 use Rattle.refusals.specs.Limits.{mostPoint}
-use Rattle.card.specs.Card.{outside}
+use Rattle.integers.specs.Search.{outside}
 use Rattle.card_bytes.specs.Causes.{below}
 
 module _ (ps : List ℤ) (k : ℕ) where

@@ -7,7 +7,7 @@ ghost use lib.IntN.{pos};
 ghost use lib.ListN.{length, getD, drop};
 ghost use Rattle.refusals.specs.Numbers.{wrongPoint, _when_, _▸_};
 ghost use Rattle.refusals.specs.Limits.{mostPolynomials, mostDegree, mostCoefficient, mostPoint};
-ghost use Rattle.card.specs.Card.{outside};
+ghost use Rattle.integers.specs.Search.{outside};
 ghost use Rattle.card_bytes.specs.Bytes.{wanted};
 ghost use Rattle.card_bytes.specs.Causes.{some, below, wrongPoints, polynomialCause, polynomialsCause, writeCause};
 use integers::magnitude;

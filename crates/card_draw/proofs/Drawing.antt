@@ -16,8 +16,8 @@ use Rattle.integers.proofs.Tests.{eq-cases}
 use Rattle.sequences.proofs.Sorted.{sorted-right, length-sorted, sorted-all}
 use Rattle.generator.specs.Generator.{after, draws}
 use Rattle.generator.proofs.Draws.{length-draws, draws-within}
-use Rattle.card.proofs.Causes.{first-none, then-none, holds-not}
-use Rattle.card.proofs.Some.{or-false, left-false, right-false}
+use Rattle.refusals.proofs.Causes.{first-none, then-none, holds-not}
+use Rattle.integers.proofs.Search.{or-false, left-false, right-false}
 use Rattle.card_bytes.specs.Bytes.{wanted}
 use Rattle.card_bytes.specs.Causes.{some, polynomialCause, polynomialsCause, writeCause}
 use Rattle.card_bytes.specs.Claim.{Rising}

@@ -32,10 +32,17 @@ fn print_signed(v: i64) {
     io::print_decimal(STDOUT_FILENO, integers::magnitude(v));
 }
 
-fn print_value(card: &[u8], j: usize, x: i8) {
-    match card::value(card, j, x) {
+// R and the number that refuses.
+fn print_refused(number: u16) {
+    put(b' ');
+    put(b'R');
+    print_number(number as u64);
+}
+
+fn print_value(answer: Evaluated) {
+    match answer {
         Evaluated::Value(v) => print_signed(v),
-        Evaluated::Refused(number) => print_number(number as u64),
+        Evaluated::Refused(number) => print_refused(number),
     }
 }
 
@@ -74,9 +81,13 @@ fn print_body(card: &[u8], j: usize) {
 fn print_position(card: &[u8], j: usize) {
     print_place(card, j);
     print_body(card, j);
-    print_value(card, j, -128);
-    print_value(card, j, -1);
-    print_value(card, j, 100);
+    print_value(card::value(card, j, -128));
+    print_value(card::value(card, j, -1));
+    print_value(card::value(card, j, 100));
+    print_value(card::value_at(card, j, 100, 100));
+    print_value(card::value_at(card, j, 7, -3));
+    print_value(card::value_at(card, j, 101, -100));
+    print_value(card::value_at(card, j, -100, -101));
     put(b'\n');
 }
 
@@ -119,11 +130,7 @@ fn print_counts(counts: SignCounts) {
 fn print_answer(answer: Queried) {
     match answer {
         Queried::Counts(counts) => print_counts(counts),
-        Queried::Refused(number) => {
-            put(b' ');
-            put(b'R');
-            print_number(number as u64);
-        }
+        Queried::Refused(number) => print_refused(number),
     }
 }
 

@@ -11,7 +11,7 @@ use lib.IntN.{ℤ}
 use lib.ListN.{length, getD, take, drop, length-drop}
 use lib.Seq.{sets, length-take-le, drop-cons, drop-drop}
 use Rattle.sequences.proofs.Stores.{sets-append}
-use Rattle.card.specs.Card.{outside}
+use Rattle.integers.specs.Search.{outside}
 use Rattle.card_bytes.specs.Bytes.{wanted, bodySize, body, bodies}
 use Rattle.card_bytes.specs.Causes.{some, polynomialsCause}
 use Rattle.card_bytes.proofs.Lengths.{length-body}

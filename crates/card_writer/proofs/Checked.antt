@@ -11,9 +11,9 @@ use lib.ListN.{length, getD, take, drop}
 use mir.Syntax.{w64}
 use mir.Val.{toZ, ofZ}
 use Rattle.integers.proofs.I64.{fits-abs, back-64}
-use Rattle.card.specs.Card.{outside}
-use Rattle.card.proofs.Causes.{first-none, then-none, holds-not, is-equal}
-use Rattle.card.proofs.Some.{or-false, left-false, right-false}
+use Rattle.integers.specs.Search.{outside}
+use Rattle.refusals.proofs.Causes.{first-none, then-none, holds-not, is-equal}
+use Rattle.integers.proofs.Search.{or-false, left-false, right-false}
 use Rattle.refusals.specs.Numbers.{wrongLength, wrongCount, wrongDegree, wrongCoefficient, _when_, _▸_}
 use Rattle.card_bytes.specs.Bytes.{wanted}
 use Rattle.card_bytes.specs.Causes.{some, below, wrongPoints, polynomialCause, polynomialsCause, writeCause}

@@ -21,7 +21,7 @@ use Rattle.card.specs.declared.Card.the-variants as of-card
 use Rattle.card.specs.declared.Evaluated.{Evaluated}
 use Rattle.card.specs.declared.Evaluated.the-variants as of-value
 use Rattle.card.proofs.Calls.{read-gives, value-gives}
-use Rattle.card.proofs.Causes.{first-none}
+use Rattle.refusals.proofs.Causes.{first-none}
 use Rattle.card.proofs.read.Reads as read
 use Rattle.card.proofs.value.Reads as evaluated
 use Rattle.card_bytes.specs.Bytes.{cardBytes}
@@ -66,7 +66,7 @@ module _ (κs : Lfts 4) (ds : RefT (List ℕ)) (cs ps : RefT (List ℤ)) (out ou
       let (w, e) = written-card in
       let (s, k) = written-counts (now ds) (now cs) (now ps) w in
       let b : j < polynomials (now card) = rw (e, s) h in
-      value-gives κ card j x o l .inside (same-lists .sound) b ∙ ap of-value.Value (same-lists .contents .values j b x)
+      value-gives κ card j x o l .inside (same-lists .sound) (same-lists .line) b ∙ ap of-value.Value (same-lists .contents .values j b x)
 
 -- ---- read, then written
 

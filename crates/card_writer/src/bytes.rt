@@ -9,7 +9,7 @@ ghost use lib.IntN.{natAbs};
 ghost use lib.ListN.{length};
 ghost use lib.Seq.{sets};
 ghost use Rattle.refusals.specs.Limits.{mostPolynomials, mostPoints, mostDegree, mostCoefficient};
-ghost use Rattle.card.specs.Card.{outside};
+ghost use Rattle.integers.specs.Search.{outside};
 ghost use Rattle.card_bytes.specs.Bytes.{bytes, complement, wanted, bodiesFrom, offsets, body, bodies, cardBytes};
 ghost use Rattle.card_bytes.specs.Causes.{some, wrongPoints, polynomialsCause, writeCause};
 

@@ -131,7 +131,7 @@ pub keeps-copies : (c : Run) (a b : List ℕ) (x : Copy) → Copies c a b x → 
 keeps-copies c a b x u = u .gave ∙ u .kept ∙ ap₂ (λ (p q : List ℕ). copyOf (stateOf c) p q) (u .lent-patterns) (u .lent-counts)
 
 -- the contracts keep the rules
-kept : Keeps Run stateOf Started Took Fetches Copies
+pub kept : Keeps Run stateOf Started Took Fetches Copies
 kept = record { starts = keeps-starts; answers = keeps-answers; fetches = keeps-fetches; copies = keeps-copies }
 
 -- a list of answers, each through any of the entries, row fetches and row copies after a start with s from 1 to 8, in which each call gets

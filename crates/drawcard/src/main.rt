@@ -9,7 +9,7 @@ use libc::STDERR_FILENO;
 use libc::STDOUT_FILENO;
 use numeral::Numeral;
 use numeral::read_numeral;
-use refusals::LONGEST_CARD;
+use refusals::LONGEST_LINE_CARD;
 
 // How many arguments there are, the program's own name among them.
 const ARGUMENTS: usize = 5;
@@ -39,10 +39,10 @@ fn say_refused(number: u16) {
 
 // Writes the card, or says why there is none.
 fn write_card(seed: u32, s: u32, n: u32, d: u32) {
-    let mut card = [0u8; LONGEST_CARD];
+    let mut card = [0u8; LONGEST_LINE_CARD];
     match card_draw::draw(seed, s as usize, n as usize, d as usize, &mut card) {
         Written::Length(length) => {
-            if length <= LONGEST_CARD {
+            if length <= LONGEST_LINE_CARD {
                 io::write_all(STDOUT_FILENO, &card[..length]);
             }
         }

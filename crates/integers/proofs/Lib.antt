@@ -1,4 +1,4 @@
--- Laws of integers: linear arithmetic, identities, sizes, signs, sums, machine numbers, halves and ranges. `Examples` is the guide.
+-- Laws of integers: linear arithmetic, identities, sizes, signs, sums, machine numbers, halves, ranges and tests. `Examples` is the guide.
 pub mod Tests
 pub mod Parts
 pub mod Abs
@@ -14,3 +14,4 @@ pub mod Diff
 pub mod Examples
 pub mod Halves
 pub mod Ranges
+pub mod Search

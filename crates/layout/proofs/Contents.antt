@@ -10,7 +10,7 @@ use lib.Seq.{getD-at}
 use Rattle.integers.proofs.Tests.{eq-cases}
 use Rattle.signs.specs.Lists.{upTo}
 use Rattle.layout.specs.Format.{pointCount, pointOf}
-use Rattle.layout.specs.Contents.{contentsOf}
+use Rattle.layout.specs.Contents.{lineContents}
 
 -- ---- 0, 1, .., n − 1
 
@@ -40,10 +40,11 @@ map-upTo-at f n k b h = map-at f (upTo n) k 0 b (omega (arith, upTo-long n)) ∙
 -- ---- the points
 
 module _ (c : List ℕ) where
-  pub points-long : length (contentsOf c .points) ≡ pointCount c
+  pub points-long : length (lineContents c .points) ≡ pointCount c
   points-long = length-map (upTo (pointCount c)) (pointOf c) ∙ upTo-long (pointCount c)
 
   -- what f makes of point k
-  pub map-point-at : {B : Type 0} (f : ℤ → B) (k : ℕ) (b : B) → k < pointCount c → getD (map f (contentsOf c .points)) k b ≡ f (pointOf c k)
+  pub map-point-at : {B : Type 0} (f : ℤ → B) (k : ℕ) (b : B) → k < pointCount c
+      → getD (map f (lineContents c .points)) k b ≡ f (pointOf c k)
   map-point-at f k b h =
-      map-at f (contentsOf c .points) k (pos 0) b (omega (arith, points-long)) ∙ ap f (map-upTo-at (pointOf c) (pointCount c) k (pos 0) h)
+      map-at f (lineContents c .points) k (pos 0) b (omega (arith, points-long)) ∙ ap f (map-upTo-at (pointOf c) (pointCount c) k (pos 0) h)

@@ -1,7 +1,7 @@
 // The numbers that stand on a card (document 01, "The card"), read off its bytes, and the coefficients of its polynomials. Each call asks that the
 // bytes it reads are there; the crate `card` checks a whole card.
 ghost use mathlib.Core.Path.{_≡_};
-ghost use Prim.Native.Nat.{_+_, _*_, _≤_, _<_};
+ghost use Prim.Native.Nat.{_+_, _*_, _^_, _≤_, _<_};
 ghost use lib.ListN.{length};
 ghost use Rattle.layout.specs.Body.{Whole};
 ghost use Rattle.layout.specs.Values.{coefficients};
@@ -65,12 +65,20 @@ fn signed(b: u32, half: u64) -> i64
     b as i64 - (2 * half) as i64
 }
 
+// The number that the four bytes from byte i on stand for in two's complement, high byte first.
+pub fn number(card: &[u8], i: usize) -> i64
+    requires { ⌜ i + 4 ≤ length (now card) ⌝ }
+    ensures { λ r. ⌜ r ≡ two's (2 ^ 31) (word (now (card .entry)) i) ⌝ }
+{
+    signed(word(card, i), 2147483648)
+}
+
 // The coefficient of X^i of the polynomial that begins at byte at.
 pub fn coefficient(card: &[u8], at: usize, i: usize) -> i64
     requires { ⌜ at + (5 + 4 * i) ≤ length (now card) ⌝ }
     ensures { λ r. ⌜ r ≡ coefficient (now (card .entry)) at i ⌝ }
 {
-    signed(word(card, at + 1 + 4 * i), 2147483648)
+    number(card, at + 1 + 4 * i)
 }
 
 // The coefficients of the polynomial that begins at byte at, from the constant up, and 0 above its degree.

@@ -1,6 +1,6 @@
 // Values of polynomials in one variable, by their coefficients from the constant up (document 01, "The card": degree 0 to 6).
 //
-// The functions have a `requires`: they are for the crates above, whose calls show it.
+// `evaluate` and `sign` have a `requires`: they are for the crates above, whose calls show it.
 ghost use mathlib.Core.Path.{_≡_};
 ghost use Prim.Native.Nat.{_≤_};
 ghost use lib.IntN.{natAbs};
@@ -27,12 +27,10 @@ pub fn evaluate(p: &[i64; MOST_COEFFICIENTS], x: i64) -> i64
     v
 }
 
-// The digit of its sign in a pattern number: 0 for 0, 1 for +, 2 for −.
-pub fn sign(p: &[i64; MOST_COEFFICIENTS], x: i64) -> u16
-    requires { ⌜ Within mostCoefficient (now p) × (natAbs x ≤ 128) ⌝ }
-    ensures { λ r. ⌜ r ≡ signDigit (evaluate (now (p .entry)) x) ⌝ }
+// The digit of a value's sign in a pattern number: 0 for 0, 1 for +, 2 for −.
+pub fn sign_digit(v: i64) -> u16
+    ensures { λ r. ⌜ r ≡ signDigit v ⌝ }
 {
-    let v = evaluate(p, x);
     if v < 0 {
         return 2;
     }
@@ -40,4 +38,12 @@ pub fn sign(p: &[i64; MOST_COEFFICIENTS], x: i64) -> u16
         return 0;
     }
     1
+}
+
+// The digit of the sign at x of the polynomial with the coefficients p.
+pub fn sign(p: &[i64; MOST_COEFFICIENTS], x: i64) -> u16
+    requires { ⌜ Within mostCoefficient (now p) × (natAbs x ≤ 128) ⌝ }
+    ensures { λ r. ⌜ r ≡ signDigit (evaluate (now (p .entry)) x) ⌝ }
+{
+    sign_digit(evaluate(p, x))
 }

@@ -1,7 +1,8 @@
--- Document 01's printed card, a card without points and a refused card, by computing the definitions.
+-- Document 01's printed card, a card of points in the plane, a card without points and a refused card, by computing the definitions.
 --
 --   example == the card of document 01, "One card through": P1 = X, P2 = X + 1, P3 = X − 2 at −3, 1, 3
 --   empty   == one polynomial, X, and no points
+--   circle  == in the plane, X² + Y² − 25 and X − Y at (−3, 4), (0, 0), (3, 4), (4, 3) and (6, 1)
 use mathlib.Core.Path.{_≡_, refl}
 use mathlib.Core.List.{List, [], _∷_}
 use Prim.Native.Nat.{ℕ}
@@ -15,7 +16,11 @@ use Rattle.signs.specs.Signs.{signDigit}
 use Rattle.contents.specs.Contents.{productTo, queryIn, patternTo, patternsIn}
 use Rattle.layout.specs.Format.{two's, offset, word}
 use Rattle.layout.specs.Values.{value}
-use Rattle.card.specs.Card.{anyBelow, contentsRefusal, headerRefusal, polynomialRefusal, coefficientsRefusal, bodiesRefusal, pointsRefusal}
+use Rattle.plane.specs.Values.{planeValue}
+use Rattle.plane.specs.Contents.{valueAt, cardPoint}
+use Rattle.plane_checks.specs.Checks.{planeRefusal, planePointsRefusal}
+use Rattle.integers.specs.Search.{anyBelow}
+use Rattle.card.specs.Card.{contentsRefusal, headerRefusal, polynomialRefusal, coefficientsRefusal, bodiesRefusal, pointsRefusal}
 use Rattle.card.specs.Card.{refusal}
 use Rattle.rounds.specs.Rows.{restrict, patterns, rowIf, rowsOf, realized}
 use Rattle.rounds.specs.Rounds.{roundOf}
@@ -27,6 +32,13 @@ example =
     1 ∷ 3 ∷ 3 ∷ 0 ∷ 0 ∷ 12 ∷ 0 ∷ 21 ∷ 0 ∷ 30 ∷ 0 ∷ 39 ∷ 1 ∷ 0
     ∷ 0 ∷ 0 ∷ 0 ∷ 0 ∷ 0 ∷ 0 ∷ 1 ∷ 1 ∷ 0 ∷ 0 ∷ 0 ∷ 1 ∷ 0 ∷ 0
     ∷ 0 ∷ 1 ∷ 1 ∷ 255 ∷ 255 ∷ 255 ∷ 254 ∷ 0 ∷ 0 ∷ 0 ∷ 1 ∷ 253 ∷ 1 ∷ 3 ∷ []
+
+abbrev circle : List ℕ
+circle =
+    2 ∷ 2 ∷ 5 ∷ 0 ∷ 0 ∷ 10 ∷ 0 ∷ 29 ∷ 0 ∷ 42
+    ∷ 3 ∷ 0 ∷ 0 ∷ 255 ∷ 255 ∷ 255 ∷ 231 ∷ 0 ∷ 2 ∷ 0 ∷ 0 ∷ 0 ∷ 1 ∷ 2 ∷ 0 ∷ 0 ∷ 0 ∷ 0 ∷ 1
+    ∷ 2 ∷ 0 ∷ 1 ∷ 255 ∷ 255 ∷ 255 ∷ 255 ∷ 1 ∷ 0 ∷ 0 ∷ 0 ∷ 0 ∷ 1
+    ∷ 253 ∷ 4 ∷ 0 ∷ 0 ∷ 3 ∷ 4 ∷ 4 ∷ 3 ∷ 6 ∷ 1 ∷ []
 
 abbrev empty : List ℕ
 empty = 1 ∷ 1 ∷ 0 ∷ 0 ∷ 0 ∷ 8 ∷ 0 ∷ 17 ∷ 1 ∷ 0 ∷ 0 ∷ 0 ∷ 0 ∷ 0 ∷ 0 ∷ 0 ∷ 1 ∷ []
@@ -51,9 +63,20 @@ example-lines : linesOf example ≡
     ∷ questionLine 19 (pos 1) ∷ rowLine 13 1 ∷ rowLine 22 1 ∷ rowLine 26 1 ∷ endLine 11 ∷ [])
 unfolding linesOf soundLines questionLines rowLines questions roundsTo restrict refusal headerRefusal contentsRefusal bodiesRefusal
     polynomialRefusal coefficientsRefusal pointsRefusal anyBelow offset two's word
-    queryIn productTo patternsIn patternTo value signDigit power upTo sumℤ sumTo
+    queryIn productTo patternsIn patternTo value valueAt cardPoint signDigit power upTo sumℤ sumTo
     realized rowsOf rowIf times patterns roundOf adapted restrictions signsOf keep shift
 example-lines = refl
+
+-- and those of a card of points in the plane
+circle-lines : linesOf circle ≡
+    (questionLine 0 (pos 5) ∷ questionLine 1 (pos 0) ∷ questionLine 2 (pos 2) ∷ questionLine 3 (pos 0) ∷ questionLine 4 (pos 1)
+    ∷ questionLine 5 (pos 1) ∷ questionLine 6 (pos 4) ∷ questionLine 7 (pos 1) ∷ questionLine 8 (pos 1)
+    ∷ rowLine 2 1 ∷ rowLine 3 1 ∷ rowLine 4 1 ∷ rowLine 6 2 ∷ endLine 9 ∷ [])
+unfolding linesOf soundLines questionLines rowLines questions roundsTo restrict refusal headerRefusal contentsRefusal bodiesRefusal
+    planeRefusal planePointsRefusal anyBelow offset two's word
+    queryIn productTo patternsIn patternTo planeValue valueAt cardPoint signDigit power upTo sumℤ sumTo
+    realized rowsOf rowIf times patterns roundOf adapted restrictions signsOf keep shift
+circle-lines = refl
 
 -- `Q 9 -1`
 minus-line : questionLine 9 (negsuc 0) ≡ (81 ∷ 32 ∷ 57 ∷ 32 ∷ 45 ∷ 49 ∷ 10 ∷ [])

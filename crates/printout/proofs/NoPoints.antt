@@ -6,9 +6,9 @@ use lib.IntN.{ℤ, pos}
 use Rattle.signs.specs.Lists.{Below, Rising, upTo}
 use Rattle.contents.specs.Contents.{patternsIn, patternAt}
 use Rattle.contents.proofs.Patterns.{query-none}
-use Rattle.layout.specs.Format.{polynomials, pointCount, pointOf}
-use Rattle.layout.specs.Contents.{contentsOf}
-use Rattle.layout.proofs.Contents.{points-long}
+use Rattle.layout.specs.Format.{polynomials, pointCount}
+use Rattle.plane.specs.Contents.{cardPoint, contentsOf}
+use Rattle.plane.proofs.Contents.{points-long}
 use Rattle.card.specs.Sound.{Sound}
 use Rattle.query.specs.Query.{queryOf, patternsOf}
 use Rattle.rounds.specs.Rows.{patterns, Positive, IsRows, realized}
@@ -32,5 +32,5 @@ lines-with c z e f = rw (e, no-rows (polynomials c), f) refl
 pub no-points : (c : List ℕ) → Sound c → pointCount c ≡ 0 → linesOf c ≡ (questionLine 0 (pos 0) ∷ endLine 1 ∷ [])
 no-points c S e =
     sound-lines c S
-    ∙ lines-with c (pos 0) (unfold patternsIn upTo in ap (λ (n : ℕ). map (patternAt (contentsOf c)) (map (pointOf c) (upTo n))) e)
+    ∙ lines-with c (pos 0) (unfold patternsIn upTo in ap (λ (n : ℕ). map (patternAt (contentsOf c)) (map (cardPoint c) (upTo n))) e)
     (query-none (contentsOf c) ∙ ap pos (points-long c ∙ e))

@@ -14,8 +14,8 @@ use Rattle.signs.proofs.Lists.{times-nil, times-same, times-other, times-append
 use Rattle.contents.proofs.Patterns.{query-patterns}
 use Rattle.contents.proofs.Counts.{counts-panel}
 use Rattle.layout.specs.Format.{polynomials}
-use Rattle.layout.specs.Contents.{contentsOf}
-use Rattle.layout.proofs.Contents.{points-long}
+use Rattle.plane.specs.Contents.{contentsOf}
+use Rattle.plane.proofs.Contents.{points-long}
 use Rattle.card.specs.Card.{refusal}
 use Rattle.refusals.specs.Limits.{mostPoints, mostQuestions}
 use Rattle.refusals.specs.Numbers.{unless}

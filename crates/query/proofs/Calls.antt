@@ -18,7 +18,7 @@ use Rattle.sign_counts.specs.declared.SignCounts.{SignCounts}
 use Rattle.contents.proofs.Patterns.{query-patterns}
 use Rattle.contents.proofs.Counts.{counts-in-all, counts-panel, counts-patterns}
 use Rattle.layout.specs.Format.{polynomials}
-use Rattle.layout.specs.Contents.{contentsOf}
+use Rattle.plane.specs.Contents.{contentsOf}
 use Rattle.card.specs.Card.{refusal}
 use Rattle.card.specs.Claim.{CardGives}
 use Rattle.card.proofs.Calls.{gives, gives-through}

@@ -4,6 +4,7 @@
 --   eight       == eight polynomials, each the constant 1, at the point 5
 --   root        == X at the point 0
 --   around      == X at −1, 0 and 1
+--   circle      == in the plane, X² + Y² − 25 and X − Y at (−3, 4), (0, 0), (3, 4), (4, 3) and (6, 1)
 --   tells p n z == the answer with these three counts
 use mathlib.Core.Path.{_≡_, refl}
 use mathlib.Core.List.{List, [], _∷_, map}
@@ -19,7 +20,11 @@ use Rattle.contents.specs.Contents.{productTo, patternTo, patternsIn}
 use Rattle.contents.specs.Counts.{countsIn}
 use Rattle.layout.specs.Format.{two's, offset, word}
 use Rattle.layout.specs.Values.{value}
-use Rattle.card.specs.Card.{anyBelow, contentsRefusal, headerRefusal, polynomialRefusal, coefficientsRefusal, bodiesRefusal, pointsRefusal}
+use Rattle.plane.specs.Values.{planeValue}
+use Rattle.plane.specs.Contents.{valueAt, cardPoint}
+use Rattle.plane_checks.specs.Checks.{planeRefusal, planePointsRefusal}
+use Rattle.integers.specs.Search.{anyBelow}
+use Rattle.card.specs.Card.{contentsRefusal, headerRefusal, polynomialRefusal, coefficientsRefusal, bodiesRefusal, pointsRefusal}
 use Rattle.card.specs.Card.{refusal}
 use Rattle.query.specs.declared.Queried.{Queried}
 use Rattle.query.specs.declared.Queried.the-variants as of-query
@@ -40,6 +45,13 @@ eight =
 
 abbrev around : List ℕ
 around = 1 ∷ 1 ∷ 3 ∷ 0 ∷ 0 ∷ 8 ∷ 0 ∷ 17 ∷ 1 ∷ 0 ∷ 0 ∷ 0 ∷ 0 ∷ 0 ∷ 0 ∷ 0 ∷ 1 ∷ 255 ∷ 0 ∷ 1 ∷ []
+
+abbrev pub circle : List ℕ
+circle =
+    2 ∷ 2 ∷ 5 ∷ 0 ∷ 0 ∷ 10 ∷ 0 ∷ 29 ∷ 0 ∷ 42
+    ∷ 3 ∷ 0 ∷ 0 ∷ 255 ∷ 255 ∷ 255 ∷ 231 ∷ 0 ∷ 2 ∷ 0 ∷ 0 ∷ 0 ∷ 1 ∷ 2 ∷ 0 ∷ 0 ∷ 0 ∷ 0 ∷ 1
+    ∷ 2 ∷ 0 ∷ 1 ∷ 255 ∷ 255 ∷ 255 ∷ 255 ∷ 1 ∷ 0 ∷ 0 ∷ 0 ∷ 0 ∷ 1
+    ∷ 253 ∷ 4 ∷ 0 ∷ 0 ∷ 3 ∷ 4 ∷ 4 ∷ 3 ∷ 6 ∷ 1 ∷ []
 
 abbrev tells : ℕ → ℕ → ℕ → Queried
 tells p n z = of-query.Counts (record { positive = p; negative = n; zero = z })
@@ -62,12 +74,17 @@ pub record QueryEdges : Type 0 where
   pub at-root : map (queryAnswer root) (0 ∷ 1 ∷ 2 ∷ []) ≡ tells 1 0 0 ∷ tells 0 0 1 ∷ tells 0 0 1 ∷ []
   -- and one that shows 0 because + and − are as many
   pub both-signs : queryAnswer around 1 ≡ tells 1 1 1
+  -- in the plane: 0 and −, − and 0, 0 and −, 0 and +, + and +; the circle alone, the line alone, and both with a square
+  pub plane-patterns : patternsOf circle ≡ 6 ∷ 2 ∷ 6 ∷ 3 ∷ 4 ∷ []
+  pub in-plane : map (queryAnswer circle) (0 ∷ 1 ∷ 3 ∷ 7 ∷ 9 ∷ [])
+      ≡ tells 5 0 0 ∷ tells 1 1 3 ∷ tells 2 2 1 ∷ tells 1 0 4 ∷ of-query.Refused 13 ∷ []
   -- a card cut short is refused before the product
   pub card-first : queryAnswer (take 41 example) 27 ≡ of-query.Refused 1
 
 pub query-edges : QueryEdges
-unfolding queryAnswer countsIn signCounts times productTo patternsIn patternTo upTo sumTo power value signDigit offset two's word
-    refusal headerRefusal contentsRefusal bodiesRefusal polynomialRefusal coefficientsRefusal pointsRefusal anyBelow
+unfolding queryAnswer countsIn signCounts times productTo patternsIn patternTo upTo sumTo power value planeValue valueAt cardPoint signDigit
+    offset two's word planeRefusal planePointsRefusal refusal headerRefusal contentsRefusal bodiesRefusal polynomialRefusal
+    coefficientsRefusal pointsRefusal anyBelow
 query-edges =
     record {
       printed = refl;
@@ -77,5 +94,7 @@ query-edges =
       past-last = refl;
       at-root = refl;
       both-signs = refl;
+      plane-patterns = refl;
+      in-plane = refl;
       card-first = refl;
     }

@@ -26,8 +26,9 @@ use Rattle.contents.specs.Counts.{countsIn, patternCounts}
 use Rattle.contents.proofs.Patterns.{map-below}
 use Rattle.contents.proofs.Counts.{counts-patterns}
 use Rattle.layout.specs.Format.{polynomials, pointCount}
-use Rattle.layout.specs.Contents.{contentsOf}
-use Rattle.layout.proofs.Contents.{upTo-long, map-upTo-at, points-long}
+use Rattle.plane.specs.Contents.{contentsOf}
+use Rattle.layout.proofs.Contents.{upTo-long, map-upTo-at}
+use Rattle.plane.proofs.Contents.{points-long}
 use Rattle.layout.proofs.Twos.{below-or}
 use Rattle.card.specs.Card.{refusal}
 use Rattle.card.specs.Answers.{reading}

@@ -26,7 +26,7 @@ use Rattle.sign_counts.specs.Counts.{panelNumber, inAll}
 use Rattle.sign_counts.specs.declared.SignCounts.{SignCounts}
 use Rattle.contents.specs.Counts.{patternCounts}
 use Rattle.layout.specs.Format.{polynomials}
-use Rattle.layout.specs.Contents.{contentsOf}
+use Rattle.plane.specs.Contents.{contentsOf}
 use Rattle.card.specs.Claim.{CardGives}
 use Rattle.query.specs.Query.{queryOf, countsOf, patternsOf}
 use Rattle.query.specs.Opened.{countsOn, summed}

@@ -38,7 +38,7 @@ use Rattle.signs.specs.Bits.{bitOf}
 use Rattle.sign_counts.specs.Counts.{signCounts}
 use Rattle.sign_counts.specs.declared.SignCounts.{SignCounts}
 use Rattle.contents.specs.Contents.{Contents}
-use Rattle.layout.specs.Contents.{contentsOf}
+use Rattle.plane.specs.Contents.{contentsOf}
 use Rattle.card.specs.Card.{refusal}
 use Rattle.query.specs.declared.Queried.{Queried}
 use Rattle.query.specs.declared.Queried.the-variants as of-query

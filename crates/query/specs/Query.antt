@@ -14,7 +14,7 @@ use Rattle.sign_counts.specs.declared.SignCounts.{SignCounts}
 use Rattle.contents.specs.Contents.{queryIn, patternsIn}
 use Rattle.contents.specs.Counts.{countsIn}
 use Rattle.layout.specs.Format.{polynomials}
-use Rattle.layout.specs.Contents.{contentsOf}
+use Rattle.plane.specs.Contents.{contentsOf}
 use Rattle.card.specs.Card.{refusal}
 use Rattle.query.specs.declared.Queried.{Queried}
 use Rattle.query.specs.declared.Queried.the-variants as of-query

@@ -12,7 +12,7 @@ ghost use lib.Count.{ones};
 ghost use lib.Dec.{eqb};
 ghost use Rattle.refusals.specs.Limits.{mostPolynomials, mostPoints};
 ghost use Rattle.layout.specs.Format.{polynomials, pointCount, pointsAt};
-ghost use Rattle.layout.specs.Contents.{contentsOf};
+ghost use Rattle.plane.specs.Contents.{contentsOf};
 ghost use Rattle.card.specs.Sound.{Sound};
 ghost use Rattle.query.specs.Opened.{signWord, openedSound, opened, countsOn, ownRefusal, openedAnswer};
 ghost use Rattle.query.specs.Query.{queryAnswer};
@@ -59,13 +59,13 @@ fn mark(card: &[u8], j: usize, from: usize, n: usize) -> Signs
     requires { ⌜ Sound (now card) × (j < polynomials (now card)) × (from ≡ pointsAt (now card)) × (n ≡ pointCount (now card)) ⌝ }
     ensures { λ r. ⌜ (r .positive ≡ signWord (contentsOf (now (card .entry))) 1 j) × (r .negative ≡ signWord (contentsOf (now (card .entry))) 2 j) ⌝ }
 {
-    let p = layout::coefficients(card, layout::offset(card, j));
+    let p = card_signs::coefficients(card, j);
     let mut positive: u64 = 0;
     let mut negative: u64 = 0;
     let mut k = n;
     while 0 < k {
         k -= 1;
-        let d = polynomials::sign(&p, layout::point(card, from, k));
+        let d = card_signs::sign(card, j, &p, from, k);
         positive = 2 * positive + signs::bit(d, 1) as u64;
         negative = 2 * negative + signs::bit(d, 2) as u64;
     }

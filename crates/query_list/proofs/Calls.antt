@@ -17,7 +17,7 @@ use Rattle.signs.specs.declared.Product.{Product}
 use Rattle.signs.proofs.Positions.{below-at}
 use Rattle.contents.proofs.Patterns.{query-patterns}
 use Rattle.layout.specs.Format.{polynomials}
-use Rattle.layout.specs.Contents.{contentsOf}
+use Rattle.plane.specs.Contents.{contentsOf}
 use Rattle.card.specs.Card.{refusal}
 use Rattle.card.specs.Sound.{Sound}
 use Rattle.card.proofs.Sound.{sound, unrefused}

@@ -11,7 +11,9 @@ use Rattle.signs.specs.Lists.{upTo}
 use Rattle.contents.specs.Contents.{queryIn, productTo}
 use Rattle.layout.specs.Format.{two's, offset, word}
 use Rattle.layout.specs.Values.{value}
-use Rattle.card.specs.Card.{anyBelow, contentsRefusal, headerRefusal, polynomialRefusal, coefficientsRefusal, bodiesRefusal, pointsRefusal}
+use Rattle.plane.specs.Contents.{valueAt, cardPoint}
+use Rattle.integers.specs.Search.{anyBelow}
+use Rattle.card.specs.Card.{contentsRefusal, headerRefusal, polynomialRefusal, coefficientsRefusal, bodiesRefusal, pointsRefusal}
 use Rattle.card.specs.Card.{refusal}
 use Rattle.query.proofs.Edges.{example}
 use Rattle.query_list.specs.declared.Numbered.the-variants.{Written, Refused, RefusedAt}
@@ -37,7 +39,7 @@ pub record ListEdges : Type 0 where
   pub card-first : cardListing (take 41 example) (27 ∷ 0 ∷ 1 ∷ []) (take 2 slice) ≡ (Refused 1, take 2 slice)
 
 pub list-edges : ListEdges
-unfolding listing firstBad queryIn sumℤ sumTo upTo productTo power value offset two's word
+unfolding listing firstBad queryIn sumℤ sumTo upTo productTo power value valueAt cardPoint offset two's word
     refusal headerRefusal contentsRefusal bodiesRefusal polynomialRefusal coefficientsRefusal pointsRefusal anyBelow
 list-edges = record {
   in-order = refl;

@@ -16,7 +16,7 @@ use Rattle.signs.specs.Lists.{Below}
 use Rattle.sign_counts.specs.Counts.{panelNumber}
 use Rattle.contents.proofs.Counts.{counts-panel}
 use Rattle.layout.specs.Format.{polynomials}
-use Rattle.layout.specs.Contents.{contentsOf}
+use Rattle.plane.specs.Contents.{contentsOf}
 use Rattle.layout.proofs.Twos.{below-or}
 use Rattle.card.specs.Card.{refusal}
 use Rattle.card.proofs.Sound.{sound}

@@ -17,6 +17,8 @@
 --   tooShort         == 15, an output slice is too short
 --   wrongDegree      == 16, a degree is above 6
 --   zeroTop          == 17, the top coefficient is 0 though the degree is not
+--   wrongTerms       == 18, of a polynomial in the plane: over 9 terms, powers above 6 together, terms that do not rise, or a coefficient
+--                       of 0
 --   cardNumbers      == the numbers that refuse a card
 --   closingNumbers   == the numbers that close a run
 --   isAmong m l      == the test that the number m stands in the list l
@@ -81,11 +83,14 @@ wrongDegree = 16
 abbrev pub zeroTop : ℕ
 zeroTop = 17
 
+abbrev pub wrongTerms : ℕ
+wrongTerms = 18
+
 -- ---- which numbers they are
 
 unfoldable pub cardNumbers : List ℕ
 cardNumbers =
-    wrongLength ∷ wrongByte ∷ wrongCount ∷ wrongOffset ∷ wrongCoefficient ∷ wrongPoint ∷ wrongDegree ∷ zeroTop ∷ []
+    wrongLength ∷ wrongByte ∷ wrongCount ∷ wrongOffset ∷ wrongCoefficient ∷ wrongPoint ∷ wrongDegree ∷ zeroTop ∷ wrongTerms ∷ []
 
 unfoldable pub closingNumbers : List ℕ
 closingNumbers = badFirst ∷ badLater ∷ noCounts ∷ []

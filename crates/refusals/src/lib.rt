@@ -41,13 +41,17 @@ pub const WRONG_DEGREE: u16 = 16; // a degree is above 6
 
 pub const ZERO_TOP: u16 = 17; // the top coefficient is 0 though the degree is not
 
+pub const WRONG_TERMS: u16 = 18; // of a polynomial in the plane: over 9 terms, powers above 6 together, terms that do not rise, or a coefficient of 0
+
 // ---- the limits
 
 pub const MOST_POLYNOMIALS: usize = 8;
 
 pub const MOST_POINTS: usize = 64;
 
-pub const MOST_DEGREE: usize = 6;
+pub const MOST_DEGREE: usize = 6; // in the plane, of both powers together
+
+pub const MOST_TERMS: usize = 9; // of a polynomial in the plane
 
 pub const MOST_COEFFICIENT: u32 = 1000000; // from minus this to this
 
@@ -59,13 +63,18 @@ pub const MOST_PRODUCTS: usize = 2 * MOST_ROWS; // of a round
 
 pub const MOST_QUESTIONS: usize = 593; // of a done run
 
-pub const LONGEST_CARD: usize = 4 // the header
+pub const LONGEST_LINE_CARD: usize = 4 // the header
     + 2 * (MOST_POLYNOMIALS + 1) // the offsets
     + MOST_POLYNOMIALS * (1 + 4 * (MOST_DEGREE + 1)) // the bodies
     + MOST_POINTS;
 
+pub const LONGEST_CARD: usize = 4 // of either kind: a card of points in the plane
+    + 2 * (MOST_POLYNOMIALS + 1)
+    + MOST_POLYNOMIALS * (1 + 6 * MOST_TERMS)
+    + 2 * MOST_POINTS;
+
 // The numbers that refuse a card.
-const CARD_NUMBERS: [u16; 8] = [
+const CARD_NUMBERS: [u16; 9] = [
     WRONG_LENGTH,
     WRONG_BYTE,
     WRONG_COUNT,
@@ -74,6 +83,7 @@ const CARD_NUMBERS: [u16; 8] = [
     WRONG_POINT,
     WRONG_DEGREE,
     ZERO_TOP,
+    WRONG_TERMS,
 ];
 
 // Whether a number stands in a list.

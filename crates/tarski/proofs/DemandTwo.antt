@@ -21,10 +21,10 @@ use Rattle.sign_counts.specs.Counts.{inAll}
 use Rattle.sign_counts.specs.declared.SignCounts.{SignCounts}
 use Rattle.contents.proofs.Counts.{counts-in-all, counts-panel}
 use Rattle.layout.specs.Format.{polynomials}
-use Rattle.layout.specs.Contents.{contentsOf}
+use Rattle.plane.specs.Contents.{contentsOf}
 use Rattle.card.specs.Card.{refusal}
-use Rattle.card.specs.Answers.{reading, valueAnswer}
-use Rattle.card.proofs.Calls.{gives-all, gives-at, gives-through}
+use Rattle.card.specs.Answers.{reading, valueAnswer, valueAtAnswer}
+use Rattle.card.proofs.Calls.{gives-all, line-gives-at, place-gives-at, gives-through, line-gives-through, place-gives-through}
 use Rattle.query.specs.Query.{countsOf, queryAnswer}
 use Rattle.query.specs.Opened.{countsOn, refusedBy, openedAnswer}
 use Rattle.query.specs.declared.Opened.{Opened}
@@ -48,9 +48,10 @@ use Rattle.tarski.specs.declared.Number.{Number}
 use Rattle.tarski.specs.declared.FlatCounts.{FlatCounts}
 use Rattle.tarski.specs.Flat.{cardOf, valueOf, flatCountsOf, listRefusalOf, refusalOf}
 use Rattle.tarski.specs.Plain.{listedFrom, solvedFrom}
-use Rattle.tarski.specs.Claim.{CheckGives, ValueGives, QueryGives, AskGives}
+use Rattle.tarski.specs.Claim.{CheckGives, ValueGives, ValueAtGives, QueryGives, AskGives}
 use Rattle.tarski.proofs.tarski_check.Reads as check
 use Rattle.tarski.proofs.tarski_value.Reads as evaluate
+use Rattle.tarski.proofs.tarski_value_at.Reads as evaluate-at
 use Rattle.tarski.proofs.tarski_query.Reads as query
 use Rattle.tarski.proofs.tarski_open.Reads as open-card
 use Rattle.tarski.proofs.tarski_ask as ask
@@ -110,7 +111,12 @@ module _ (κs : Lfts 1) (card : RefT (List ℕ)) where
   pub library-value : (j : ℕ) (x : ℤ) (o : Number) → evaluate.Learnt κs (card, (j, (x, tt))) o (card, (j, (x, tt)))
       → ValueGives (now card) j x o
   unfolding valueOf valueAnswer
-  library-value j x o e = rw e (gives-through valueOf (gives-at (now card) _ _ j))
+  library-value j x o e = rw e (line-gives-through valueOf (line-gives-at (now card) _ _ j))
+
+  pub library-value-at : (j : ℕ) (x y : ℤ) (o : Number) → evaluate-at.Learnt κs (card, (j, (x, (y, tt)))) o (card, (j, (x, (y, tt))))
+      → ValueAtGives (now card) j (x, y) o
+  unfolding valueOf valueAtAnswer
+  library-value-at j x y o e = rw e (place-gives-through valueOf (place-gives-at (now card) _ _ j (x, y)))
 
   -- DEMAND 2, its first sentence: of a query in one call, and of one on a card that was opened
   pub demand2-library-query : (α : ℕ) (o : FlatCounts) → query.Learnt κs (card, (α, tt)) o (card, (α, tt)) → QueryGives (now card) α o

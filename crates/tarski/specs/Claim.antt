@@ -8,7 +8,8 @@
 --   noCounts k          == a query that is refused by the number k
 --   someCounts z t      == the query z with the three counts t
 --   CheckGives c o      == `tarski_check` on the card c: s and n
---   ValueGives c j x o  == `tarski_value`: the value of polynomial j at x, or 14
+--   ValueGives c j x o  == `tarski_value`: the value at x of polynomial j of a card of points on the line, or 14
+--   ValueAtGives c j p o == `tarski_value_at`: the value of polynomial j at the point p, or 14, or 6
 --   QueryGives c α o    == `tarski_query`, and `tarski_ask` on the card opened: the sum over the points of the sign of the product's
 --                          value, and at how many of them that value is positive, negative and 0, or 13; the three add up to the points
 --   AskGives k α o      == `tarski_ask` on the opened card k, whatever it holds: the same by its bits
@@ -22,8 +23,9 @@ use lib.ListN.{length}
 use Rattle.sign_counts.specs.declared.SignCounts.{SignCounts}
 use Rattle.layout.specs.Format.{polynomials, pointCount, offset}
 use Rattle.layout.specs.Values.{value}
-use Rattle.layout.specs.Contents.{contentsOf}
-use Rattle.card.specs.Claim.{CardGives}
+use Rattle.plane.specs.Format.{Point}
+use Rattle.plane.specs.Contents.{valueAt, contentsOf}
+use Rattle.card.specs.Claim.{CardGives, LineGives, PlaceGives, Near}
 use Rattle.query.specs.Query.{queryOf, countsOf}
 use Rattle.query.specs.Opened.{countsOn, summed}
 use Rattle.query.specs.Claim.{OpenedGives}
@@ -46,7 +48,10 @@ CheckGives c o =
     (record { polynomials = polynomials c; points = pointCount c; refusal = 0 }) o
 
 abbrev pub ValueGives : List ℕ → ℕ → ℤ → Number → Type 0
-ValueGives c j x o = CardGives c (j < polynomials c) 14 noNumber (aNumber (value c (offset c j) x)) o
+ValueGives c j x o = LineGives c (j < polynomials c) 14 noNumber (aNumber (value c (offset c j) x)) o
+
+abbrev pub ValueAtGives : List ℕ → ℕ → Point → Number → Type 0
+ValueAtGives c j p o = PlaceGives c (j < polynomials c) 14 (Near p) 6 noNumber (aNumber (valueAt c (offset c j) p)) o
 
 abbrev pub noCounts : ℕ → FlatCounts
 noCounts k = record { number = pos 0; positive = 0; negative = 0; zero = 0; refusal = k }

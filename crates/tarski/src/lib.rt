@@ -1,7 +1,7 @@
 // The library for programs in C and Rust (include/tarski.h, include/tarski.rs): the proved calls on plain numbers, slices as pointer and length, and
 // records lent by reference. An enum's cases are numbers here: the definitions in specs/Flat.antt say which.
 ghost use mathlib.Core.Path.{_≡_};
-ghost use Rattle.card.specs.Answers.{reading, valueAnswer};
+ghost use Rattle.card.specs.Answers.{reading, valueAnswer, valueAtAnswer};
 ghost use Rattle.query.specs.Query.{queryAnswer};
 ghost use Rattle.adapted_list.specs.Listing.{listOf};
 ghost use Rattle.query_list.specs.Listing.{cardListing, openedListing};
@@ -134,12 +134,11 @@ pub extern "C" fn tarski_check(card: &[u8]) -> Checked
     }
 }
 
-// The value of polynomial j of a card at x.
-#[no_mangle]
-pub extern "C" fn tarski_value(card: &[u8], j: usize, x: i8) -> Number
-    ensures { λ r. ⌜ r ≡ valueOf (valueAnswer (now (card .entry)) j x) ⌝ }
+// A value as plain numbers.
+fn flat_value(answer: Evaluated) -> Number
+    ensures { λ r. ⌜ r ≡ valueOf answer ⌝ }
 {
-    match card::value(card, j, x) {
+    match answer {
         Evaluated::Value(v) => Number {
             number: v,
             refusal: NONE,
@@ -149,6 +148,22 @@ pub extern "C" fn tarski_value(card: &[u8], j: usize, x: i8) -> Number
             refusal: k,
         },
     }
+}
+
+// The value at x of polynomial j of a card of points on the line.
+#[no_mangle]
+pub extern "C" fn tarski_value(card: &[u8], j: usize, x: i8) -> Number
+    ensures { λ r. ⌜ r ≡ valueOf (valueAnswer (now (card .entry)) j x) ⌝ }
+{
+    flat_value(card::value(card, j, x))
+}
+
+// The value at (x, y) of polynomial j of a card of either kind.
+#[no_mangle]
+pub extern "C" fn tarski_value_at(card: &[u8], j: usize, x: i64, y: i64) -> Number
+    ensures { λ r. ⌜ r ≡ valueOf (valueAtAnswer (now (card .entry)) j (x, y)) ⌝ }
+{
+    flat_value(card::value_at(card, j, x, y))
 }
 
 // A query's answer as plain numbers.

@@ -4,7 +4,8 @@ use mathlib.Core.Path.{_≡_, refl, sym, _∙_}
 use mathlib.Core.List.{List, []}
 use Prim.Native.Nat.{ℕ, _+_, _-_, _≤_}
 use native.Mathlib.Omega.{arith}
-use Rattle.layout.specs.Format.{offset, size}
+use Rattle.layout.specs.Format.{offset}
+use Rattle.card.specs.Kinds.{bodySize}
 use Rattle.card.specs.Card.{positionRefusal}
 use Rattle.card.proofs.Positions.{held, unless-none, unless-number}
 use lib.ListN.{length, take, drop}
@@ -30,9 +31,9 @@ module _ (c : List ℕ) (j : ℕ) (refused : positionRefusal c j ≡ 0 → ⊥) 
   no-start at = let e : start c j ≡ 0 = unless-number _ _ _ refused in omega arith
 
 -- ---- the stretch from `from` on, `len` bytes long
-module _ (c : List ℕ) (j from len : ℕ) (h : positionRefusal c j ≡ 0) (e : from ≡ offset c j) (f : len ≡ size c from) where
+module _ (c : List ℕ) (j from len : ℕ) (h : positionRefusal c j ≡ 0) (e : from ≡ offset c j) (f : len ≡ bodySize c from) where
   ends : from + len ≤ length c
-  ends = rw (f, e) (held c j h .body .small .whole .ends)
+  ends = rw (f, e) (held c j h .place .ends)
 
   bytes : take (from + len - from) (drop from c) ≡ body c j
   unfolding body
@@ -55,11 +56,11 @@ good c = sym (c .before .check-position .ensures) ∙ c .if1 .left
 offset-requires : tie.Need-offset-requires
 offset-requires c κs = let h = held _ _ (good c) in omega arith
 
-size-requires : tie.Need-size-requires
-size-requires c κs = let h = held _ _ (good (c .before)) in omega arith
+body-size-requires : tie.Need-body-size-requires
+body-size-requires c κs = omega (arith, held _ _ (good (c .before)) .place .begins)
 
 add-to : tie.Need-add-to
-add-to c = let l = ends _ _ _ _ (good (c .before .before)) (c .before .offset .ensures) (c .size .ensures) in omega arith
+add-to c = let l = ends _ _ _ _ (good (c .before .before)) (c .before .offset .ensures) (c .body-size .ensures) in omega arith
 
 sub-result : tie.Need-sub-result
 sub-result c = search needs
@@ -68,13 +69,13 @@ part-result-start : tie.Need-part-result-start
 part-result-start c = search needs
 
 part-result-end : tie.Need-part-result-end
-part-result-end c = let l = ends _ _ _ _ (good (c .before .before)) (c .before .offset .ensures) (c .size .ensures) in omega arith
+part-result-end c = let l = ends _ _ _ _ (good (c .before .before)) (c .before .offset .ensures) (c .body-size .ensures) in omega arith
 
 returns-2 : tie.Need-returns-2
 returns-2 c = (
-  bytes _ _ _ _ (good (c .before .before .before)) (c .before .before .offset .ensures) (c .before .size .ensures),
+  bytes _ _ _ _ (good (c .before .before .before)) (c .before .before .offset .ensures) (c .before .body-size .ensures),
   refl,
-  begins _ _ _ _ (good (c .before .before .before)) (c .before .before .offset .ensures) (c .before .size .ensures) _,
+  begins _ _ _ _ (good (c .before .before .before)) (c .before .before .offset .ensures) (c .before .body-size .ensures) _,
 )
 
 pub body-spec : {M : Type 1} → statement M
@@ -85,7 +86,7 @@ body-spec =
     slice-aggregate-result
     returns
     offset-requires
-    size-requires
+    body-size-requires
     add-to
     sub-result
     part-result-start

@@ -3,7 +3,8 @@ use mathlib.Core.Path.{_≡_, sym, ap, _∙_}
 use mathlib.Core.List.{List}
 use Prim.Native.Nat.{ℕ}
 use native.Mathlib.Omega.{arith}
-use Rattle.layout.specs.Format.{offset, size}
+use Rattle.layout.specs.Format.{offset}
+use Rattle.card.specs.Kinds.{bodySize}
 use Rattle.card.specs.Card.{positionRefusal}
 use Rattle.card.proofs.Positions.{held, unless-none, unless-number}
 use Rattle.card.specs.declared.Stretch.the-variants as Stretch
@@ -27,16 +28,16 @@ good c = sym (c .before .check-position .ensures) ∙ c .if1 .left
 offset-requires : tie.Need-offset-requires
 offset-requires c κs = let h = held _ _ (good c) in omega arith
 
-size-requires : tie.Need-size-requires
-size-requires c κs = let h = held _ _ (good (c .before)) in omega arith
+body-size-requires : tie.Need-body-size-requires
+body-size-requires c κs = omega (arith, held _ _ (good (c .before)) .place .begins)
 
-where-at : (c : List ℕ) (j start len : ℕ) → start ≡ offset c j → len ≡ size c start
-    → Stretch.At start len ≡ Stretch.At (offset c j) (size c (offset c j))
+where-at : (c : List ℕ) (j start len : ℕ) → start ≡ offset c j → len ≡ bodySize c start
+    → Stretch.At start len ≡ Stretch.At (offset c j) (bodySize c (offset c j))
 where-at c j start len e f = rw (f, e)
 
 returns-2 : tie.Need-returns-2
 unfolding stretch
-returns-2 c = where-at _ _ _ _ (c .before .offset .ensures) (c .size .ensures) ∙ sym (unless-none _ _ _ (good (c .before .before)))
+returns-2 c = where-at _ _ _ _ (c .before .offset .ensures) (c .body-size .ensures) ∙ sym (unless-none _ _ _ (good (c .before .before)))
 
 pub locate-spec : {M : Type 1} → statement M
-locate-spec = tie.close (tie.spec check-position-requires returns offset-requires size-requires returns-2)
+locate-spec = tie.close (tie.spec check-position-requires returns offset-requires body-size-requires returns-2)

@@ -7,7 +7,7 @@ use lib.IntN.{pos}
 use lib.ListN.{length, getD, drop}
 use Rattle.integers.proofs.I64.{back-64}
 use Rattle.refusals.specs.Limits.{mostCoefficient}
-use Rattle.card.specs.Card.{outside}
+use Rattle.integers.specs.Search.{outside}
 use Rattle.card_bytes.specs.Causes.{some}
 use Rattle.card_checks.proofs.Searches.{some-searches, search-found, search-passed, search-ended}
 use Rattle.card_checks.proofs.has_large.Statement.{statement}

@@ -6,7 +6,7 @@ use lib.IntN.{pos}
 use lib.ListN.{getD}
 use Rattle.integers.proofs.I64.{back-64}
 use Rattle.refusals.specs.Limits.{mostPoint}
-use Rattle.card.specs.Card.{outside}
+use Rattle.integers.specs.Search.{outside}
 use Rattle.card_checks.proofs.Points.{wrong-outside, right-last, wrong-next}
 use Rattle.card_checks.proofs.is_wrong_at.Statement.{statement}
 use Rattle.card_checks.proofs.is_wrong_at.Tie as tie

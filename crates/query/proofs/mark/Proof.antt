@@ -3,22 +3,14 @@ use mathlib.Core.Path.{_≡_, sym, ap, _∙_}
 use mathlib.Core.List.{List}
 use Prim.Native.Nat.{ℕ, _+_, _*_, _-_, _^_, _≤_, _<_}
 use native.Mathlib.Omega.{arith}
-use borrow.Author.Needs.{needs, sfits-of}
-use lib.IntN.{ℤ, natAbs}
+use borrow.Author.Needs.{needs}
 use lib.ListN.{length, drop, length-map}
-use mir.Syntax.{w64}
-use mir.Val.{SFits, toZ, ofZ}
-use mir.Facts.{toZ-ofZ}
 use Rattle.refusals.specs.Limits.{mostPoints}
 use Rattle.signs.specs.Signs.{signDigit}
 use Rattle.signs.specs.Bits.{bitOf}
-use Rattle.layout.specs.Format.{polynomials, pointCount, offset, pointsAt, point}
-use Rattle.polynomials.specs.Values.{evaluate}
-use Rattle.layout.specs.Values.{valueOf, coefficients}
-use Rattle.layout.specs.Contents.{contentsOf}
-use Rattle.layout.proofs.Contents.{points-long, map-point-at}
-use Rattle.card.specs.Sound.{Sound}
-use Rattle.card.proofs.Positions.{offset-place, body-place, body-within, point-place, point-within, point-value}
+use Rattle.layout.specs.Format.{pointCount}
+use Rattle.plane.specs.Contents.{cardPoint, contentsOf}
+use Rattle.plane.proofs.Contents.{points-long, map-point-at}
 use Rattle.query.specs.Opened.{wordOf, pointBits}
 use Rattle.query.proofs.Words.{word-none, word-turn, word-room}
 use Rattle.query.proofs.Opening.{bits-small}
@@ -40,7 +32,7 @@ bits-long c d j = length-map (contentsOf c .points) _ ∙ points-long c
 
 -- one turn: the bit of point k − 1, by the digit t of the sign there, for which there is room
 module _ (c : List ℕ) (d j k x : ℕ) (h : 0 < k) (e : x ≡ wordOf (drop k (bits c d j))) where
-  turned : (t b : ℕ) → k ≤ pointCount c → b ≡ bitOf t d → t ≡ signDigit (valueOf c j (k - 1))
+  turned : (t b : ℕ) → k ≤ pointCount c → b ≡ bitOf t d → t ≡ signDigit (contentsOf c .value j (cardPoint c (k - 1)))
       → 2 * x + b ≡ wordOf (drop (k - 1) (bits c d j))
   turned t b g eb et =
       word-turn (bits c d j) k x b h (omega (arith, bits-long c d j))
@@ -50,27 +42,12 @@ module _ (c : List ℕ) (d j k x : ℕ) (h : 0 < k) (e : x ≡ wordOf (drop k (b
   roomy : pointCount c ≤ mostPoints → 2 * x + 1 < 2 ^ 64
   roomy g = word-room (bits c d j) (bits-small (contentsOf c) d j) k x h e (omega (arith, bits-long c d j))
 
--- ---- what a turn knows: its point, and the digit of the sign there
-
-module _ (c : List ℕ) (sound : Sound c) (j from k : ℕ) (x : ℤ) (h : k < pointCount c) (ef : from ≡ pointsAt c) (ex : x ≡ point c from k)
-    (f : SFits w64 x) where
-  within : natAbs (toZ w64 (ofZ w64 x)) ≤ 128
-  within = rw (toZ-ofZ f, ex, ef) (point-within c sound k h)
-
-  digit-is : (p : List ℤ) (at d : ℕ) → j < polynomials c → p ≡ coefficients c at → at ≡ offset c j
-      → d ≡ signDigit (evaluate p (toZ w64 (ofZ w64 x)))
-      → d ≡ signDigit (valueOf c j k)
-  digit-is p at d b ep ea e = (rw (toZ-ofZ f, ex, ef, ep, ea) at e) ∙ ap signDigit (point-value c sound j k b)
-
-offset-requires : tie.Need-offset-requires Inv-loop μ-loop
-offset-requires c κs = let s = c .before in offset-place _ (s .pre .0) (s .args .j) (omega arith)
-
 coefficients-requires : tie.Need-coefficients-requires Inv-loop μ-loop
-coefficients-requires c κs = let s = c .before .before in rw (c .offset .ensures) (body-place _ (s .pre .0) (s .args .j) (s .pre .1))
+coefficients-requires c κs = (c .before .pre .0, c .before .pre .1)
 
 loop-holds : tie.Need-loop-holds Inv-loop μ-loop
 loop-holds c =
-    let s = c .before .before .before in
+    let s = c .before .before in
     let w = s .args .card .now in
     let j = s .args .j in
     let n = s .args .n in (
@@ -82,42 +59,29 @@ loop-holds c =
 sub-k : tie.Need-sub-k Inv-loop μ-loop
 sub-k c = search needs
 
-point-requires : tie.Need-point-requires Inv-loop μ-loop
-point-requires c κs =
-    let s = c .before .before .before .before .before .before in
-    omega (arith, point-place _ (s .pre .0) (c .before .before .loop .k - 1) (omega arith))
-
 sign-requires : tie.Need-sign-requires Inv-loop μ-loop
 sign-requires c κs =
-    let s = c .before .before .before .before .before .before .before in
-    let p = c .before .before .before .before in (
-      rw (p .coefficients .ensures, p .before .offset .ensures) (body-within _ (s .pre .0) (s .args .j) (s .pre .1)),
-      within _ (s .pre .0) (s .args .j) _ (c .before .before .before .loop .k - 1) _ (omega arith) (s .pre .2) (c .point .ensures)
-          (sfits-of (c .point .ok)),
-    )
+    let s = c .before .before .before .before .before in
+    (s .pre .0, s .pre .1, c .before .before .before .coefficients .ensures, s .pre .2, omega arith)
 
 -- the digit of the sign at the turn's point, and room for its bit
 record Turn (c : List ℕ) (j k d positive negative : ℕ) : Type 0 where
-  pub digit : d ≡ signDigit (valueOf c j (k - 1))
+  pub digit : d ≡ signDigit (contentsOf c .value j (cardPoint c (k - 1)))
   pub room : (2 * positive + 1 < 2 ^ 64) × (2 * negative + 1 < 2 ^ 64)
 
 turn : (c : tie.After-sign Inv-loop μ-loop) →
-    let s = c .before .before .before .before .before .before .before .before in
-    let l = c .before .before .before .before .loop in
+    let s = c .before .before .before .before .before .before in
+    let l = c .before .before .before .loop in
     Turn (s .args .card .now) (s .args .j) (l .k) (c .sign .result) (l .positive) (l .negative)
 turn c =
-    let s = c .before .before .before .before .before .before .before .before in
-    let l = c .before .before .before .before .loop in
-    let p = c .before .before .before .before .before in
-    let x = c .before .point in
+    let s = c .before .before .before .before .before .before in
+    let l = c .before .before .before .loop in
     let h : 0 < l .k = omega arith in
     let w = s .args .card .now in
     let j = s .args .j in
     let m = s .pre .0 .n-most in
     record {
-      digit =
-          digit-is _ (s .pre .0) (s .args .j) _ (l .k - 1) _ (omega arith) (s .pre .2) (x .ensures) (sfits-of (x .ok)) _ _ _ (s .pre .1)
-          (p .coefficients .ensures) (p .before .offset .ensures) (c .sign .ensures);
+      digit = c .sign .ensures;
       room = (roomy w 1 j (l .k) _ h (l .inv .1) m, roomy w 2 j (l .k) _ h (l .inv .2) m);
     }
 
@@ -151,8 +115,8 @@ loop-less c = search needs
 loop-again : tie.Need-loop-again Inv-loop μ-loop
 loop-again c =
     let t = turn (c .before .before) in
-    let l = c .before .before .before .before .before .before .loop in
-    let s = c .before .before .before .before .before .before .before .before .before .before in
+    let l = c .before .before .before .before .before .loop in
+    let s = c .before .before .before .before .before .before .before .before in
     let h : 0 < l .k = omega arith in
     let w = s .args .card .now in
     let j = s .args .j in
@@ -174,11 +138,9 @@ mark-spec =
     (tie.spec
     Inv-loop
     μ-loop
-    offset-requires
     coefficients-requires
     loop-holds
     sub-k
-    point-requires
     sign-requires
     mul-positive
     bit-requires

@@ -4,8 +4,8 @@ use Prim.Native.Nat.{_-_, _≤_, _<_}
 use native.Mathlib.Omega.{arith}
 use borrow.Author.Needs.{needs}
 use Rattle.layout.specs.Format.{offset}
-use Rattle.layout.specs.Contents.{contentsOf}
-use Rattle.layout.proofs.Contents.{points-long}
+use Rattle.plane.specs.Contents.{contentsOf}
+use Rattle.plane.proofs.Contents.{points-long}
 use Rattle.card.proofs.Positions.{offset-place}
 use Rattle.query.proofs.Opening.{Filled, filled-none, filled-next, evaluated-is}
 use Rattle.query.proofs.open_sound.Statement.{statement}

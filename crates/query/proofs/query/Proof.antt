@@ -4,8 +4,8 @@ use Prim.Native.Nat.{ℕ, _^_, _≤_, _<_}
 use native.Mathlib.Omega.{arith}
 use borrow.Author.Needs.{needs}
 use Rattle.layout.specs.Format.{polynomials}
-use Rattle.layout.specs.Contents.{contentsOf}
-use Rattle.layout.proofs.Contents.{points-long}
+use Rattle.plane.specs.Contents.{contentsOf}
+use Rattle.plane.proofs.Contents.{points-long}
 use Rattle.card.proofs.Positions.{Taken, taken}
 use Rattle.query.specs.declared.Opened.{Opened}
 use Rattle.query.specs.declared.Queried.the-variants as Answer

@@ -1,4 +1,4 @@
--- `card::reader::check_bodies` meets its contract. The loop's invariant: what is left to say of the check-bodies from check-polynomial j
+-- `card::reader::check_bodies` meets its contract. The loop's invariant: what is left to say of the bodies from polynomial j
 -- on, which begins at byte at, is what was to be said of all.
 use mathlib.Core.Path.{_≡_, sym, _∙_}
 use mathlib.Core.List.{List}
@@ -6,11 +6,10 @@ use Prim.Native.Nat.{ℕ, _-_, _≤_}
 use native.Mathlib.Omega.{arith}
 use lib.ListN.{length}
 use Rattle.layout.specs.Format.{polynomials, bodiesAt}
-use Rattle.layout.specs.Body.{Whole}
-use Rattle.card.specs.Card.{polynomialRefusal, bodiesRefusal}
+use Rattle.card.specs.Card.{bodyRefusal, bodiesRefusal}
 use Rattle.card.proofs.Header.{headed}
-use Rattle.card.proofs.Polynomial.{whole}
-use Rattle.card.proofs.Bodies.{no-more, bad-polynomial, bad-next, good-next}
+use Rattle.card.proofs.ByKind.{Fits, fits}
+use Rattle.card.proofs.Bodies.{no-more, bad-body, bad-next, good-next}
 use Rattle.card.proofs.reader.check_bodies.Statement.{statement}
 use Rattle.card.proofs.reader.check_bodies.Tie as tie
 
@@ -39,26 +38,26 @@ loop-holds c =
     let h = headed _ (c .before .before .before .before .pre) in
     (omega arith, omega arith, start (c .before .before .before .before .args .card .now) _ _ (omega arith) (c .bodies-at .ensures))
 
-check-polynomial-requires : tie.Need-check-polynomial-requires Inv-loop μ-loop
-check-polynomial-requires c κs = tt
+check-body-requires : tie.Need-check-body-requires Inv-loop μ-loop
+check-body-requires c κs = let h = headed _ (c .before .before .before .before .before .before .pre) in omega arith
 
 returns : tie.Need-returns Inv-loop μ-loop
 returns c =
-    c .before .check-polynomial .ensures
-    ∙ bad-polynomial _ _ _ _ (omega arith) (λ e. c .if1 .taken (c .before .check-polynomial .ensures ∙ e))
+    c .before .check-body .ensures
+    ∙ bad-body _ _ _ _ (omega arith) (λ e. c .if1 .taken (c .before .check-body .ensures ∙ e))
     ∙ sym (c .before .before .before .loop .inv .2)
 
 good : (c : tie.Else1 Inv-loop μ-loop)
-    → polynomialRefusal (c .before .before .before .before .before .before .before .before .args .card .now)
+    → bodyRefusal (c .before .before .before .before .before .before .before .before .args .card .now)
     (c .before .before .before .loop .at) ≡ 0
-good c = sym (c .before .check-polynomial .ensures) ∙ c .if1 .left
+good c = sym (c .before .check-body .ensures) ∙ c .if1 .left
 
 passed : (c : tie.Else1 Inv-loop μ-loop)
-    → Whole (c .before .before .before .before .before .before .before .before .args .card .now) (c .before .before .before .loop .at)
-passed c = whole _ _ (good c)
+    → Fits (c .before .before .before .before .before .before .before .before .args .card .now) (c .before .before .before .loop .at)
+passed c = fits _ _ (good c)
 
-size-requires : tie.Need-size-requires Inv-loop μ-loop
-size-requires c κs = let w = passed (c) in omega arith
+body-size-requires : tie.Need-body-size-requires Inv-loop μ-loop
+body-size-requires c κs = let w = passed (c) in omega arith
 
 add-at : tie.Need-add-at Inv-loop μ-loop
 add-at c = let w = passed (c .before) in omega arith
@@ -86,11 +85,11 @@ loop-again c =
           ∙ good-next _ _ _ _ (omega arith) (good (c .before .before .before)) _ (omega arith) (omega arith)),
     )
 
-check-rest-requires : tie.Need-check-rest-requires Inv-loop μ-loop
-check-rest-requires c κs = let h = headed _ (c .before .before .before .before .before .before .pre) in omega arith
+check-end-requires : tie.Need-check-end-requires Inv-loop μ-loop
+check-end-requires c κs = let h = headed _ (c .before .before .before .before .before .before .pre) in omega arith
 
 returns-3 : tie.Need-returns-3 Inv-loop μ-loop
-returns-3 c = c .check-rest .ensures ∙ sym (no-more _ _ _ _ (omega arith)) ∙ sym (c .before .before .loop .inv .2)
+returns-3 c = c .check-end .ensures ∙ sym (no-more _ _ _ _ (omega arith)) ∙ sym (c .before .before .loop .inv .2)
 
 pub check-bodies-spec : {M : Type 1} → statement M
 check-bodies-spec =
@@ -102,14 +101,14 @@ check-bodies-spec =
     wide-requires
     bodies-at-requires
     loop-holds
-    check-polynomial-requires
+    check-body-requires
     returns
-    size-requires
+    body-size-requires
     add-at
     add-j
     offset-requires
     returns-2
     loop-less
     loop-again
-    check-rest-requires
+    check-end-requires
     returns-3)

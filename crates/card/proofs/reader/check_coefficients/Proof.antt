@@ -7,8 +7,8 @@ use mathlib.Core.List.{List}
 use Prim.Native.Nat.{ℕ, _+_, _*_, _-_, _≤_, _<_, _^_}
 use native.Mathlib.Omega.{arith}
 use Rattle.layout.specs.Format.{degree, word, coefficient}
-use Rattle.card.specs.Card.{anyBelow, outside}
-use Rattle.card.proofs.Some.{some-none, some-more}
+use Rattle.integers.specs.Search.{anyBelow, outside}
+use Rattle.integers.proofs.Search.{some-none, some-more}
 use Rattle.card.proofs.Polynomial.{large-coefficient, zero-top, sound-constant, sound-coefficients, abs-word, abs-word-zero}
 use Rattle.card.proofs.reader.check_coefficients.Statement.{statement}
 use Rattle.card.proofs.reader.check_coefficients.Tie as tie

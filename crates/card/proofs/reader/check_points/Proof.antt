@@ -5,8 +5,8 @@ use mathlib.Core.Path.{_≡_, refl, sym, subst}
 use mathlib.Core.Bool.{Bool, false}
 use Prim.Native.Nat.{ℕ, _-_, _≤_}
 use native.Mathlib.Omega.{arith}
-use Rattle.card.specs.Card.{anyBelow}
-use Rattle.card.proofs.Some.{some-none, some-more}
+use Rattle.integers.specs.Search.{anyBelow}
+use Rattle.integers.proofs.Search.{some-none, some-more}
 use Rattle.card.proofs.Points.{Low, wrong, low-next, low-least, falls, too-high, right, bad-point, good-points}
 use Rattle.card.proofs.reader.check_points.Statement.{statement}
 use Rattle.card.proofs.reader.check_points.Tie as tie

@@ -7,7 +7,7 @@ use native.Mathlib.Omega.{arith}
 use lib.Dec.{ltb}
 use Rattle.integers.proofs.Parts.{int, same-test}
 use Rattle.layout.specs.Format.{two's}
-use Rattle.card.specs.Card.{outside}
+use Rattle.integers.specs.Search.{outside}
 use Rattle.layout.proofs.Twos.{below-or, abs-low, abs-high}
 use Rattle.card.proofs.reader.too_large.Statement.{statement}
 use Rattle.card.proofs.reader.too_large.Tie as tie

@@ -5,14 +5,14 @@ use mathlib.Core.Logic.{_⊎_, ⊎-elim}
 use Prim.Native.Nat.{ℕ, zero, suc, _+_, _<_}
 use native.Mathlib.Numerals.{add-one}
 use native.Mathlib.Omega.{arith}
 use Rattle.integers.proofs.Tests.{eq-cases}
-use Rattle.card.specs.Card.{anyBelow}
+use Rattle.integers.specs.Search.{anyBelow}
 
 or-true : (a : Bool) → a || true ≡ true
 or-true true = refl
 or-true false = refl
 
-or-none : (a : Bool) → a || false ≡ a
+pub or-none : (a : Bool) → a || false ≡ a
 or-none true = refl
 or-none false = refl
 
@@ -73,3 +73,9 @@ module _ (f : ℕ → Bool) where
   unfolding anyBelow
   none-below zero h = refl
   none-below (suc n) h = or-false (anyBelow f n) (f n) (none-below n (λ k l. h k (omega arith))) (h n (omega arith))
+
+-- tests that agree below n
+pub any-same : (f g : ℕ → Bool) (n : ℕ) → ((k : ℕ) → k < n → f k ≡ g k) → anyBelow f n ≡ anyBelow g n
+unfolding anyBelow
+any-same f g zero h = refl
+any-same f g (suc n) h = rw (any-same f g n (λ k l. h k (omega arith)), h n (omega arith)) refl

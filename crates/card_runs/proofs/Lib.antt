@@ -1,0 +1,4 @@
+pub mod Counted
+pub mod Truthful
+pub mod Runs
+pub mod Calls

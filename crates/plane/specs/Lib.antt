@@ -1,0 +1,4 @@
+pub mod Format
+pub mod Body
+pub mod Values
+pub mod Contents
