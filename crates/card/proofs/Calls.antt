@@ -11,11 +11,11 @@ use contract.Lifetimes.{Lfts}
 use denote.Ref.{RefT, now}
 use lib.Dec.{leb, eqb·suc-zero}
 use lib.IntN.{ℤ, natAbs}
-use lib.ListN.{length, take, drop}
+use lib.ListN.{length}
 use Rattle.refusals.specs.Numbers.{wrongPoint, pastLast, cardNumbers, isAmong, Among, _when_, _▸_, unless}
 use Rattle.integers.specs.Search.{outside}
 use Rattle.integers.proofs.Search.{or-false, left-false, right-false}
-use Rattle.layout.specs.Format.{byte, polynomials, pointCount, offset}
+use Rattle.layout.specs.Format.{byte, polynomials}
 use Rattle.layout.proofs.Twos.{below-or}
 use Rattle.plane.specs.Format.{Point}
 use Rattle.card.specs.Card.{refusal, positionRefusal, kindRefusal, placeRefusal}

@@ -24,7 +24,7 @@ use Rattle.card.specs.Kinds.{bodySize, SoundBody}
 use Rattle.layout.proofs.Twos.{below-or}
 use Rattle.integers.specs.Search.{anyBelow, outside}
 use Rattle.card.specs.Card.{falling, contentsRefusal, headerRefusal, coefficientsRefusal, polynomialRefusal}
-use Rattle.card.specs.Card.{bodyRefusal, endRefusal, bodiesRefusal, pointsRefusal, refusal}
+use Rattle.card.specs.Card.{bodyRefusal, bodiesRefusal, pointsRefusal, refusal}
 use Rattle.card.specs.Finer.{Reached, HighDegree, LargeCoefficient, ZeroTop, coarse, polynomialsBefore, refusalBefore, Finer}
 use Rattle.card.specs.Finer.{PlaneFiner}
 use Rattle.integers.proofs.Search.{or-none, some-which}

@@ -4,7 +4,7 @@
 --   planeLongest == a sound card of 590 bytes: 8 polynomials of 9 terms with all coefficients 1, and 64 points (0, 0)
 use mathlib.Core.Path.{_≡_, refl, sym, ap, _∙_}
 use mathlib.Core.Bool.{Bool, true, false, not, _||_}
-use mathlib.Core.Logic.{_⊎_, inl, inr, ⊎-elim}
+use mathlib.Core.Logic.{_⊎_, ⊎-elim}
 use mathlib.Core.List.{List, [], _∷_, _++_}
 use Prim.Native.Nat.{ℕ, zero, suc, _+_, _*_, _≤_, _<_}
 use native.Mathlib.Omega.{arith}
@@ -12,7 +12,7 @@ use borrow.Author.Tests.{le-ltb, lt-leb, ltb-false}
 use lib.Dec.{ltb, eqb}
 use lib.ListN.{length, take, replicate}
 use lib.Seq.{take-all, length-take-le, getD-take}
-use Rattle.refusals.specs.Numbers.{wrongByte, wrongCount, wrongOffset, wrongDegree, _when_, _▸_}
+use Rattle.refusals.specs.Numbers.{wrongByte, wrongCount, wrongOffset, wrongDegree, _when_}
 use Rattle.refusals.specs.Limits.{mostPolynomials, mostPoints, mostDegree, mostCoefficient, longestLine, longestCard}
 use Rattle.refusals.proofs.Causes.{holds-not, next}
 use Rattle.integers.specs.Search.{anyBelow, outside}

@@ -1,7 +1,7 @@
 -- A sound card of points on the line, as one list of facts (document 01, "The card").
 --
 --   LineSound c == the card c is `Sound`, and its points are on the line
-use mathlib.Core.Path.{_≡_, _∙_}
+use mathlib.Core.Path.{_≡_}
 use mathlib.Core.Logic.{inl}
 use mathlib.Core.List.{List}
 use Prim.Native.Nat.{ℕ, suc, _+_, _≤_, _<_}

@@ -22,7 +22,7 @@ use mathlib.Core.Bool.{Bool, false, cond, not, _||_, _&&_}
 use mathlib.Core.List.{List}
 use Prim.Native.Nat.{ℕ, zero, suc, _+_}
 use lib.Dec.{ltb, leb, eqb}
-use lib.IntN.{ℤ, natAbs}
+use lib.IntN.{natAbs}
 use lib.ListN.{length}
 use lib.Signed.{ltZ}
 use Rattle.refusals.specs.Numbers.{wrongLength, wrongByte, wrongCount, wrongOffset, wrongCoefficient, wrongPoint, wrongDegree, zeroTop}

@@ -6,7 +6,7 @@ use native.Mathlib.Omega.{arith}
 use borrow.Author.Tests.{le-ltb, lt-leb, ltb-false}
 use lib.Dec.{ltb}
 use lib.ListN.{length}
-use Rattle.refusals.specs.Numbers.{wrongTerms, _when_, _▸_}
+use Rattle.refusals.specs.Numbers.{wrongTerms, _when_}
 use Rattle.refusals.specs.Limits.{mostTerms, mostCoefficient}
 use Rattle.refusals.proofs.Causes.{holds-not, next}
 use Rattle.integers.specs.Search.{outside}

@@ -1,10 +1,10 @@
 -- `card::evaluate` meets its contract.
-use mathlib.Core.Path.{_≡_, refl, sym, ap, ap₂, subst, _∙_}
+use mathlib.Core.Path.{_≡_, sym, _∙_}
 use mathlib.Core.Bool.{true, false}
 use mathlib.Core.List.{List}
 use Prim.Native.Nat.{ℕ, _≤_, _<_}
 use native.Mathlib.Omega.{arith}
-use borrow.Author.Needs.{needs, sfits-of}
+use borrow.Author.Needs.{sfits-of}
 use lib.IntN.{ℤ, natAbs}
 use mir.Syntax.{w64}
 use mir.Val.{SFits, toZ, ofZ}
@@ -22,7 +22,7 @@ use Rattle.plane.specs.Contents.{valueAt}
 use Rattle.plane.proofs.Contents.{line-value, plane-value}
 use Rattle.card.specs.Sound.{Sound}
 use Rattle.card.proofs.ByKind.{kind-plane, kind-line}
-use Rattle.card.proofs.Positions.{offset-place, body-fits, body-place, body-within, line-value-at}
+use Rattle.card.proofs.Positions.{offset-place, body-place, body-within, line-value-at}
 use Rattle.card.proofs.evaluate.Statement.{statement}
 use Rattle.card.proofs.evaluate.Tie as tie
 

@@ -1,5 +1,5 @@
 -- `tarski::tarski_value` meets its contract.
-use mathlib.Core.Path.{sym, ap, _∙_}
+use mathlib.Core.Path.{ap, _∙_}
 use mir.Syntax.{w8}
 use mir.ValLaws.{toZ-ofZ}
 use Rattle.card.specs.Answers.{valueAnswer}

@@ -1,9 +1,7 @@
 -- `card::reader::check_kind` meets its contract.
 use mathlib.Core.Path.{sym}
-use native.Mathlib.Omega.{arith}
 use borrow.Author.Needs.{needs}
 use borrow.Author.Tests.{lt-ltb, le-ltb, eq-eqb, ne-eqb}
-use lib.ListN.{length}
 use Rattle.card.specs.Card.{kindRefusal}
 use Rattle.card.proofs.reader.check_kind.Statement.{statement}
 use Rattle.card.proofs.reader.check_kind.Tie as tie
