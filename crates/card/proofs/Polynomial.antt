@@ -3,7 +3,7 @@ use mathlib.Core.Path.{_≡_, sym, ap, _∙_}
 use mathlib.Core.Bool.{true, false}
 use mathlib.Core.Logic.{_⊎_, inl, inr, ⊎-elim}
 use mathlib.Core.List.{List}
-use Prim.Native.Nat.{ℕ, _+_, _≤_, _<_, _^_}
+use Prim.Native.Nat.{ℕ, _+_, _≤_, _<_}
 use native.Mathlib.Omega.{arith}
 use borrow.Author.Tests.{lt-ltb, le-ltb, le-leb, lt-leb, eq-eqb, ne-eqb, ltb-false, leb-false}
 use lib.Dec.{ltb, leb}
@@ -11,22 +11,13 @@ use lib.IntN.{pos, natAbs}
 use lib.ListN.{length}
 use Rattle.integers.proofs.Abs.{abs-zero}
 use Rattle.refusals.specs.Numbers.{_when_, _▸_}
-use Rattle.layout.specs.Format.{degree, size, coefficient, two's}
+use Rattle.layout.specs.Format.{degree, size, coefficient}
 use Rattle.integers.specs.Search.{anyBelow, outside}
 use Rattle.card.specs.Card.{coefficientsRefusal, polynomialRefusal}
 use Rattle.layout.specs.Body.{Whole, Small, Body}
 use Rattle.integers.proofs.Search.{some-true, some-false, none-below}
 use Rattle.refusals.proofs.Causes.{first-none, then-none, holds-not}
-use Rattle.layout.proofs.Twos.{below-or, abs-low, abs-high}
-
--- four bytes stand for 0 only where all are 0
-pub abs-word : (w : ℕ) → w < 2 ^ 32 → natAbs (two's (2 ^ 31) w) ≡ 0 → w ≡ 0
-abs-word w f e =
-    ⊎-elim (λ b. omega (arith, abs-low (2 ^ 31) w b)) (λ b. omega (arith, abs-high (2 ^ 31) w b (omega arith)))
-    (below-or w (2 ^ 31))
-
-pub abs-word-zero : (w : ℕ) → w ≡ 0 → natAbs (two's (2 ^ 31) w) ≡ 0
-abs-word-zero w e = omega (arith, abs-low (2 ^ 31) w (omega arith))
+use Rattle.layout.proofs.Twos.{below-or}
 
 module _ (c : List ℕ) (at : ℕ) where
   pub large-coefficient : (i : ℕ) → i ≤ degree c at → outside 1000000 (coefficient c at i) ≡ true → coefficientsRefusal c at ≡ 5

@@ -6,10 +6,8 @@ ghost use lib.Dec.{eqb};
 ghost use Prim.Native.Nat.{_+_, _≤_, _<_};
 ghost use lib.IntN.{pos, _+ℤ_};
 ghost use lib.ListN.{length};
-ghost use Rattle.refusals.specs.Limits.{mostCoefficient};
 ghost use Rattle.layout.specs.Format.{polynomials, pointCount, bodiesAt, two's};
 ghost use Rattle.layout.specs.Body.{Whole};
-ghost use Rattle.integers.specs.Search.{outside};
 ghost use Rattle.card.specs.Kinds.{bodySize};
 ghost use Rattle.card.specs.Card.{contentsRefusal, headerRefusal, pointsRefusal, coefficientsRefusal, polynomialRefusal, bodyRefusal, endRefusal};
 ghost use Rattle.card.specs.Card.{bodiesRefusal, refusal, positionRefusal, kindRefusal, placeRefusal};
@@ -17,11 +15,11 @@ use integers::magnitude;
 use layout::bodies_at;
 use layout::offset;
 use layout::size;
+use layout::too_large;
 use layout::wide;
 use layout::word;
 use plane::PLANE;
 use plane::is_plane;
-use refusals::MOST_COEFFICIENT;
 use refusals::NONE;
 use refusals::PAST_LAST;
 use refusals::WRONG_BYTE;
@@ -42,8 +40,6 @@ const MOST_POLYNOMIALS: u8 = refusals::MOST_POLYNOMIALS as u8;
 const MOST_POINTS: u8 = refusals::MOST_POINTS as u8;
 
 const MOST_DEGREE: u8 = refusals::MOST_DEGREE as u8;
-
-const LEAST_COEFFICIENT: u32 = 0xffff_ffff - MOST_COEFFICIENT + 1; // two's complement
 
 const LEAST_POINT: u8 = 128 - refusals::MOST_POINT; // with 128 added
 
@@ -99,16 +95,6 @@ fn check_header(card: &[u8]) -> u16
         return WRONG_COUNT;
     }
     check_contents(card)
-}
-
-// A coefficient outside its limits, by its four bytes.
-fn too_large(word: u32) -> bool
-    ensures { λ r. ⌜ r ≡ outside mostCoefficient (two's 2147483648 word) ⌝ }
-{
-    if word <= MOST_COEFFICIENT {
-        return false;
-    }
-    word < LEAST_COEFFICIENT
 }
 
 // The coefficients of the polynomial whose body begins at byte at: each within its limits, and the top one not 0 unless it is the constant.

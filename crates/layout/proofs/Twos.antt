@@ -1,7 +1,8 @@
 -- Two's complement: what a number below 2h stands for, its absolute value and its order.
 use mathlib.Core.Path.{_≡_, ap}
 use mathlib.Core.Logic.{_⊎_, inl, inr, ⊎-elim}
-use Prim.Native.Nat.{ℕ, _+_, _*_, _≤_, _<_}
+use Prim.Native.Nat.{ℕ, _+_, _*_, _^_, _≤_, _<_}
+use native.Mathlib.Omega.{arith}
 use borrow.Author.Tests.{ltb-true, ltb-false, lt-ltb, le-ltb}
 use lib.Dec.{ltb}
 use lib.IntN.{pos, natAbs, _-ℤ_}
@@ -26,3 +27,12 @@ module _ (h b : ℕ) where
 
   pub abs-high : h ≤ b → b ≤ 2 * h → natAbs (two's h b) + b ≡ 2 * h
   abs-high l m = rw (twos-high l) (omega (int, dif (pos b) (pos (2 * h)), parts (pos b -ℤ pos (2 * h)), side (pos b -ℤ pos (2 * h))))
+
+-- four bytes stand for 0 only where all are 0
+pub abs-word : (w : ℕ) → w < 2 ^ 32 → natAbs (two's (2 ^ 31) w) ≡ 0 → w ≡ 0
+abs-word w f e =
+    ⊎-elim (λ b. omega (arith, abs-low (2 ^ 31) w b)) (λ b. omega (arith, abs-high (2 ^ 31) w b (omega arith)))
+    (below-or w (2 ^ 31))
+
+pub abs-word-zero : (w : ℕ) → w ≡ 0 → natAbs (two's (2 ^ 31) w) ≡ 0
+abs-word-zero w e = omega (arith, abs-low (2 ^ 31) w (omega arith))

@@ -3,10 +3,16 @@
 ghost use mathlib.Core.Path.{_≡_};
 ghost use Prim.Native.Nat.{_+_, _*_, _^_, _≤_, _<_};
 ghost use lib.ListN.{length};
+ghost use Rattle.refusals.specs.Limits.{mostCoefficient};
+ghost use Rattle.integers.specs.Search.{outside};
 ghost use Rattle.layout.specs.Body.{Whole};
 ghost use Rattle.layout.specs.Values.{coefficients};
 ghost use Rattle.layout.specs.Format.{bodiesAt, offset, size, word, coefficient, point, two's};
 use polynomials::MOST_COEFFICIENTS;
+use refusals::MOST_COEFFICIENT;
+
+// The least coefficient, as a card has it: two's complement.
+const LEAST_COEFFICIENT: u32 = 0xffff_ffff - MOST_COEFFICIENT + 1;
 
 // A byte as a wider number.
 pub fn wide(x: u8) -> usize
@@ -71,6 +77,16 @@ pub fn number(card: &[u8], i: usize) -> i64
     ensures { λ r. ⌜ r ≡ two's (2 ^ 31) (word (now (card .entry)) i) ⌝ }
 {
     signed(word(card, i), 2147483648)
+}
+
+// A coefficient outside its limits, by its four bytes.
+pub fn too_large(word: u32) -> bool
+    ensures { λ r. ⌜ r ≡ outside mostCoefficient (two's (2 ^ 31) word) ⌝ }
+{
+    if word <= MOST_COEFFICIENT {
+        return false;
+    }
+    word < LEAST_COEFFICIENT
 }
 
 // The coefficient of X^i of the polynomial that begins at byte at.

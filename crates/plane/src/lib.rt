@@ -10,6 +10,7 @@ ghost use Rattle.refusals.specs.Limits.{mostDegree, mostPoint};
 ghost use Rattle.integers.specs.Powers.{power};
 ghost use Rattle.signs.specs.Lists.{upTo};
 ghost use Rattle.signs.specs.Signs.{signDigit};
+ghost use Rattle.layout.specs.Format.{word};
 ghost use Rattle.plane.specs.Format.{isPlane, planeSize, xPower, yPower, termCoefficient};
 ghost use Rattle.plane.specs.Body.{PlaneBody};
 ghost use Rattle.plane.specs.Values.{planeValue};
@@ -52,6 +53,14 @@ pub fn y_power(card: &[u8], at: usize, i: usize) -> usize
     ensures { λ r. ⌜ (r ≡ yPower (now (card .entry)) at i) × (r < 256) ⌝ }
 {
     wide(card[at + 2 + 6 * i])
+}
+
+// The four bytes of its coefficient.
+pub fn word(card: &[u8], at: usize, i: usize) -> u32
+    requires { ⌜ at + (7 + 6 * i) ≤ length (now card) ⌝ }
+    ensures { λ r. ⌜ r ≡ word (now (card .entry)) (at + 3 + 6 * i) ⌝ }
+{
+    layout::word(card, at + 3 + 6 * i)
 }
 
 // Its coefficient.

@@ -1,7 +1,7 @@
--- A number within its limits, or 0, as the code tests it.
+-- A number within its limits, as the code tests it.
 --
 -- z is what a call gave, and fits its bits; x is the number that it is by the call's contract
-use mathlib.Core.Path.{_≡_, ap, _∙_}
+use mathlib.Core.Path.{_≡_, _∙_}
 use mathlib.Core.Bool.{Bool, true, false, not}
 use Prim.Native.Nat.{ℕ, _≤_}
 use borrow.Author.Tests.{leb-true, leb-false, lt-ltb, not-true, not-false}
@@ -9,28 +9,18 @@ use lib.Dec.{leb}
 use lib.IntN.{ℤ, pos, natAbs}
 use mir.Syntax.{w64}
 use mir.Val.{SFits, toZ, ofZ}
-use mir.Facts.{toZ-ofZ, sfits-lit}
+use mir.Facts.{toZ-ofZ}
 use Rattle.integers.specs.Range.{isWithin}
 use Rattle.integers.specs.Search.{outside}
-use Rattle.integers.proofs.Abs.{abs-zero}
-use Rattle.integers.proofs.I64.{same-bits}
 use Rattle.integers.proofs.Ranges.{within-abs}
 
-module _ {x z : ℤ} (f : SFits w64 z) (e : z ≡ x) where
-  -- the test of 0
-  pub is-zero : ofZ w64 z ≡ 0 → natAbs x ≡ 0
-  is-zero h = rw (← e) (ap natAbs (same-bits z (pos 0) f (sfits-lit tt) h))
+-- the test of the limits −k and k, which gave t
+module _ {x z : ℤ} (f : SFits w64 z) (e : z ≡ x) (k : ℕ) {t : Bool} (d : t ≡ isWithin (toZ w64 (ofZ w64 z)) (pos k)) where
+  tested : t ≡ leb (natAbs x) k
+  tested = d ∙ rw (toZ-ofZ f, e) (within-abs x k)
 
-  pub not-zero : (ofZ w64 z ≡ 0 → ⊥) → natAbs x ≡ 0 → ⊥
-  not-zero h a = h (ap (ofZ w64) (e ∙ abs-zero x a))
+  pub is-far : not t ≡ true → outside k x ≡ true
+  is-far h = lt-ltb k (natAbs x) (leb-false (natAbs x) k (rw tested at (not-true t h)))
 
-  -- the test of the limits −k and k, which gave t
-  module _ (k : ℕ) {t : Bool} (d : t ≡ isWithin (toZ w64 (ofZ w64 z)) (pos k)) where
-    tested : t ≡ leb (natAbs x) k
-    tested = d ∙ rw (toZ-ofZ f, e) (within-abs x k)
-
-    pub is-far : not t ≡ true → outside k x ≡ true
-    is-far h = lt-ltb k (natAbs x) (leb-false (natAbs x) k (rw tested at (not-true t h)))
-
-    pub is-near : not t ≡ false → natAbs x ≤ k
-    is-near h = leb-true (natAbs x) k (rw tested at (not-false t h))
+  pub is-near : not t ≡ false → natAbs x ≤ k
+  is-near h = leb-true (natAbs x) k (rw tested at (not-false t h))

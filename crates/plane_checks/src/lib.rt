@@ -14,9 +14,10 @@ ghost use Rattle.plane.specs.Body.{WholePlane};
 ghost use Rattle.plane_checks.specs.Checks.{wrongTerm, planeRefusal, planePointsRefusal};
 use integers::within;
 use layout::point;
+use layout::too_large;
 use layout::wide;
-use plane::coefficient;
 use plane::size;
+use plane::word;
 use plane::x_power;
 use plane::y_power;
 use refusals::MOST_DEGREE;
@@ -28,8 +29,6 @@ use refusals::WRONG_TERMS;
 
 // The limits, as bytes and signed numbers of a card have them.
 const MOST_TERMS: u8 = refusals::MOST_TERMS as u8;
-
-const MOST_COEFFICIENT: i64 = refusals::MOST_COEFFICIENT as i64;
 
 const MOST_POINT: i64 = refusals::MOST_POINT as i64;
 
@@ -56,7 +55,7 @@ fn check_terms(card: &[u8], at: usize) -> u16
         if place < least {
             return WRONG_TERMS;
         }
-        if coefficient(card, at, i) == 0 {
+        if word(card, at, i) == 0 {
             return WRONG_TERMS;
         }
         least = place + 1;
@@ -73,7 +72,7 @@ fn check_limits(card: &[u8], at: usize) -> u16
     let t = wide(card[at]);
     let mut i = 0;
     while i < t {
-        if !within(coefficient(card, at, i), MOST_COEFFICIENT) {
+        if too_large(word(card, at, i)) {
             return WRONG_COEFFICIENT;
         }
         i += 1;

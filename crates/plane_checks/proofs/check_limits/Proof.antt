@@ -1,15 +1,13 @@
 -- `plane_checks::check_limits` meets its contract. The loop's invariant: no coefficient below i is outside its limits.
-use mathlib.Core.Path.{_≡_}
-use mathlib.Core.Bool.{false}
-use Prim.Native.Nat.{_-_, _≤_}
+use mathlib.Core.Path.{_≡_, sym, _∙_}
+use mathlib.Core.Bool.{Bool, true, false}
+use Prim.Native.Nat.{ℕ, _-_, _^_, _≤_}
 use native.Mathlib.Omega.{arith}
-use borrow.Author.Needs.{sfits-of}
-use borrow.Author.Tests.{le-ltb}
 use Rattle.integers.specs.Search.{anyBelow, outside}
 use Rattle.integers.proofs.Search.{some-none, some-more}
+use Rattle.layout.specs.Format.{two's}
 use Rattle.plane.specs.Format.{termCoefficient}
 use Rattle.plane_checks.proofs.Terms.{cause-some, cause-none}
-use Rattle.plane_checks.proofs.Within.{is-far, is-near}
 use Rattle.plane_checks.proofs.check_limits.Statement.{statement}
 use Rattle.plane_checks.proofs.check_limits.Tie as tie
 
@@ -28,17 +26,21 @@ wide-requires c κs = tt
 loop-holds : tie.Need-loop-holds Inv-loop μ-loop
 loop-holds c = (omega arith, some-none _)
 
-coefficient-requires : tie.Need-coefficient-requires Inv-loop μ-loop
-coefficient-requires c κs = let w = c .before .before .before .before .before .pre in omega arith
+word-requires : tie.Need-word-requires Inv-loop μ-loop
+word-requires c κs = let w = c .before .before .before .before .before .pre in omega arith
 
-within-requires : tie.Need-within-requires Inv-loop μ-loop
-within-requires c κs = tt
+too-large-requires : tie.Need-too-large-requires Inv-loop μ-loop
+too-large-requires c κs = tt
+
+-- the test t of the four bytes w, which are v
+tested : (v w : ℕ) (t b : Bool) → w ≡ v → t ≡ outside 1000000 (two's (2 ^ 31) w) → t ≡ b → outside 1000000 (two's (2 ^ 31) v) ≡ b
+tested v w t b e d h = rw (← e) (sym d ∙ h)
 
 returns : tie.Need-returns Inv-loop μ-loop
 returns c =
     let l = c .before .before .before .before .loop in
-    let k = c .before .before .coefficient in
-    cause-some 5 _ _ (l .i) (omega arith) (is-far (sfits-of (k .ok)) (k .ensures) 1000000 (c .before .within .ensures) (c .if1 .taken))
+    cause-some 5 _ _ (l .i) (omega arith)
+    (tested _ _ _ true (c .before .before .word .ensures) (c .before .too-large .ensures) (c .if1 .taken))
 
 add-i : tie.Need-add-i Inv-loop μ-loop
 add-i c = omega arith
@@ -48,10 +50,11 @@ loop-less c = omega arith
 
 loop-again : tie.Need-loop-again Inv-loop μ-loop
 loop-again c =
-    let l = c .before .before .before .before .loop in
-    let k = c .before .before .coefficient in
-    let n = is-near (sfits-of (k .ok)) (k .ensures) 1000000 (c .before .within .ensures) (c .if1 .left) in
-    (omega arith, some-more _ (l .i) (l .inv .1) (le-ltb 1000000 _ n))
+    let l = c .before .before .before .before .loop in (
+      omega arith,
+      some-more _ (l .i) (l .inv .1)
+          (tested _ _ _ false (c .before .before .word .ensures) (c .before .too-large .ensures) (c .if1 .left)),
+    )
 
 returns-2 : tie.Need-returns-2 Inv-loop μ-loop
 returns-2 c = cause-none 5 _ _ _ (omega arith) (c .before .loop .inv .1)
@@ -65,8 +68,8 @@ check-limits-spec =
     shared-slice-read-wide
     wide-requires
     loop-holds
-    coefficient-requires
-    within-requires
+    word-requires
+    too-large-requires
     returns
     add-i
     loop-less

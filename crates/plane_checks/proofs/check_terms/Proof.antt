@@ -1,17 +1,26 @@
 -- `plane_checks::check_terms` meets its contract. The loop's invariant: no term below i is wrong, and least is one above the place of the
 -- last one passed, or 0.
-use mathlib.Core.Path.{_≡_, refl}
+use mathlib.Core.Path.{_≡_, refl, sym, _∙_}
 use mathlib.Core.Bool.{false}
-use Prim.Native.Nat.{_-_, _≤_}
+use Prim.Native.Nat.{ℕ, _-_, _^_, _≤_, _<_}
 use native.Mathlib.Omega.{arith}
-use borrow.Author.Needs.{sfits-of}
+use lib.IntN.{natAbs}
 use Rattle.integers.specs.Search.{anyBelow}
 use Rattle.integers.proofs.Search.{some-none, some-more}
+use Rattle.layout.specs.Format.{two's}
+use Rattle.layout.proofs.Twos.{abs-word, abs-word-zero}
 use Rattle.plane_checks.specs.Checks.{wrongTerm}
-use Rattle.plane_checks.proofs.Within.{is-zero, not-zero}
 use Rattle.plane_checks.proofs.Terms.{Least, cause-some, cause-none, least-next, too-high, falls, rises, zero-term, right}
 use Rattle.plane_checks.proofs.check_terms.Statement.{statement}
 use Rattle.plane_checks.proofs.check_terms.Tie as tie
+
+-- the four bytes w, which are v: 0, or not
+module _ (v w : ℕ) (e : w ≡ v) where
+  is-zero : w ≡ 0 → natAbs (two's (2 ^ 31) v) ≡ 0
+  is-zero h = abs-word-zero v (sym e ∙ h)
+
+  not-zero : w < 2 ^ 32 → (w ≡ 0 → ⊥) → natAbs (two's (2 ^ 31) v) ≡ 0 → ⊥
+  not-zero f h z = h (e ∙ abs-word v (omega arith) z)
 
 abbrev Inv-loop : tie.InvT-loop
 Inv-loop card at t least₀ i₀ least i = (i ≤ t) × (anyBelow (wrongTerm card at) i ≡ false) × Least card at i least
@@ -54,14 +63,14 @@ returns-2 c =
     let l = c .before .before .before .before .before .loop in
     cause-some 18 _ _ (l .i) (omega arith) (falls _ _ (l .i) _ (l .inv .2) (omega arith) (omega arith))
 
-coefficient-requires : tie.Need-coefficient-requires Inv-loop μ-loop
-coefficient-requires c κs = let w = c .before .before .before .before .before .before .before .before .before .pre in omega arith
+word-requires : tie.Need-word-requires Inv-loop μ-loop
+word-requires c κs = let w = c .before .before .before .before .before .before .before .before .before .pre in omega arith
 
 returns-3 : tie.Need-returns-3 Inv-loop μ-loop
 returns-3 c =
     let l = c .before .before .before .before .before .before .before .loop in
-    let k = c .before .coefficient in
-    cause-some 18 _ _ (l .i) (omega arith) (zero-term _ _ (l .i) (is-zero (sfits-of (k .ok)) (k .ensures) (c .if3 .taken)))
+    let k = c .before .word in
+    cause-some 18 _ _ (l .i) (omega arith) (zero-term _ _ (l .i) (is-zero _ _ (k .ensures) (c .if3 .taken)))
 
 add-least : tie.Need-add-least Inv-loop μ-loop
 add-least c = omega arith
@@ -75,10 +84,10 @@ loop-less c = omega arith
 loop-again : tie.Need-loop-again Inv-loop μ-loop
 loop-again c =
     let l = c .before .before .before .before .before .before .before .loop in
-    let k = c .before .coefficient in
+    let k = c .before .word in
     let o = rises _ _ (l .i) _ (l .inv .2) (omega arith) (omega arith) in (
       omega arith,
-      some-more _ (l .i) (l .inv .1) (right _ _ (l .i) (omega arith) o (not-zero (sfits-of (k .ok)) (k .ensures) (c .if3 .left))),
+      some-more _ (l .i) (l .inv .1) (right _ _ (l .i) (omega arith) o (not-zero _ _ (k .ensures) (omega arith) (c .if3 .left))),
       least-next _ _ (l .i) _ _ (omega arith) (omega arith) (omega arith),
     )
 
@@ -101,7 +110,7 @@ check-terms-spec =
     mul-place
     add-place
     returns-2
-    coefficient-requires
+    word-requires
     returns-3
     add-least
     add-i

@@ -9,7 +9,8 @@ use native.Mathlib.Omega.{arith}
 use Rattle.layout.specs.Format.{degree, word, coefficient}
 use Rattle.integers.specs.Search.{anyBelow, outside}
 use Rattle.integers.proofs.Search.{some-none, some-more}
-use Rattle.card.proofs.Polynomial.{large-coefficient, zero-top, sound-constant, sound-coefficients, abs-word, abs-word-zero}
+use Rattle.layout.proofs.Twos.{abs-word, abs-word-zero}
+use Rattle.card.proofs.Polynomial.{large-coefficient, zero-top, sound-constant, sound-coefficients}
 use Rattle.card.proofs.reader.check_coefficients.Statement.{statement}
 use Rattle.card.proofs.reader.check_coefficients.Tie as tie
 

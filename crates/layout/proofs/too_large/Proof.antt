@@ -1,4 +1,4 @@
--- `card::reader::too_large` meets its contract.
+-- `layout::too_large` meets its contract.
 use mathlib.Core.Path.{_≡_, sym}
 use mathlib.Core.Bool.{false}
 use mathlib.Core.Logic.{⊎-elim}
@@ -6,11 +6,11 @@ use Prim.Native.Nat.{ℕ, _≤_, _<_, _^_}
 use native.Mathlib.Omega.{arith}
 use lib.Dec.{ltb}
 use Rattle.integers.proofs.Parts.{int, same-test}
 use Rattle.layout.specs.Format.{two's}
 use Rattle.integers.specs.Search.{outside}
 use Rattle.layout.proofs.Twos.{below-or, abs-low, abs-high}
-use Rattle.card.proofs.reader.too_large.Statement.{statement}
-use Rattle.card.proofs.reader.too_large.Tie as tie
+use Rattle.layout.proofs.too_large.Statement.{statement}
+use Rattle.layout.proofs.too_large.Tie as tie
 
 inside : (w : ℕ) → w ≤ 1000000 → outside 1000000 (two's (2 ^ 31) w) ≡ false
 inside w h = let a = abs-low (2 ^ 31) w (omega arith) in omega int
