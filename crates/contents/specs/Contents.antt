@@ -1,5 +1,5 @@
 -- The contents of a card, apart from its bytes: how many polynomials, their values, and the points (document 000, section 3.2; document 01,
--- "Patterns and products"). A point may be of any type X: a number on a card of today.
+-- "Patterns and products"). A point may be of any type X: on a card it is a pair.
 --
 --   Contents X         == contents with points in X
 --   productTo v s α    == at a point where polynomial j has the value v j, the value of the product α of the first s polynomials: of each,

@@ -1,5 +1,5 @@
 // The numbers that stand on a card (document 01, "The card"), read off its bytes, and the coefficients of its polynomials. Each call asks that the
-// bytes it reads are there; the crate `card` checks a whole card.
+// bytes it reads are there; the crate `card` checks a whole card. Bodies and points are those of the line: the crate `plane` has those of the plane.
 ghost use mathlib.Core.Path.{_≡_};
 ghost use Prim.Native.Nat.{_+_, _*_, _^_, _≤_, _<_};
 ghost use lib.ListN.{length};

@@ -1,5 +1,5 @@
 -- No line of a printout is empty, so that a program may stop at the empty line, which is given once the printout is over; and a printout is
--- that of the input cut after 319 bytes.
+-- that of the input cut after 591 bytes.
 use mathlib.Core.Path.{_≡_, sym, ap, _∙_}
 use mathlib.Core.Logic.{⊎-elim}
 use mathlib.Core.List.{List, [], _∷_, _++_, map}
