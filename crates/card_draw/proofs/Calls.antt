@@ -77,6 +77,7 @@ module _ (seed s n d : ℕ) (none : drawCause s n d ≡ 0) where
       let many : polynomials c ≡ s = p ∙ length-replicate s d in
       record {
         sound = r .sound;
+        line = r .line;
         how-many = many;
         degrees = λ j h.
             sym (map-upTo-at (λ i. degree c (offset c i)) (polynomials c) j 0 (omega arith))

@@ -3,7 +3,8 @@
 --
 --   Counted s n          == there are 1 to 8 polynomials and at most 64 points
 --   cardSize s n d       == how many bytes a card of s polynomials of degree d and n points has
---   IsDrawn seed s n d c == the card c is sound, with s polynomials of degree d, n points, and the coefficients and points drawn
+--   IsDrawn seed s n d c == the card c is a sound card of points on the line, with s polynomials of degree d, n points, and the
+--                           coefficients and points drawn
 --   DrawGives seed s n d out o out′
 --                        == a call on the seed, s, n, d and the buffer out answers o and leaves out′: refused by 3, 16 and 15 in this
 --                           order, each for its cause and leaving the buffer as it was; else the card is written, and it is the one drawn
@@ -11,7 +12,7 @@ use mathlib.Core.Path.{_≡_}
 use mathlib.Core.List.{List}
 use Prim.Native.Nat.{ℕ, _+_, _*_, _<_, _≤_}
 use lib.ListN.{length}
-use Rattle.layout.specs.Format.{polynomials, pointCount, offset, degree}
+use Rattle.layout.specs.Format.{byte, polynomials, pointCount, offset, degree}
 use Rattle.card.specs.Sound.{Sound}
 use Rattle.generator.specs.Generator.{after}
 use Rattle.card_bytes.specs.Lists.{coefficientsOf, pointsOf}
@@ -29,6 +30,7 @@ cardSize s n d = 4 + 2 * (s + 1) + (s + 4 * (s * (d + 1))) + n  -- header, offse
 
 pub record IsDrawn (seed s n d : ℕ) (c : List ℕ) : Type 0 where
   pub sound : Sound c
+  pub line : byte c 0 ≡ 1
   pub how-many : polynomials c ≡ s
   pub degrees : (j : ℕ) → j < s → degree c (offset c j) ≡ d
   pub coefficients : coefficientsOf c ≡ drawnCoefficients s d seed
