@@ -129,7 +129,7 @@ fn plane_points(points: &[u8]) -> bool {
 
 // ---- queries
 
-/// An opened card: for each polynomial the points where it is positive, and those where it is negative, a bit each.
+/// An opened card: how many different points it has; for each polynomial those where it is positive, and those where it is negative, a bit each.
 pub struct Opened {
     pub s: usize,
     pub n: usize,
@@ -137,10 +137,27 @@ pub struct Opened {
     pub negative: [u64; 8],
 }
 
+/// The points of a sound card, of SIZE bytes each, to the front of out, each once; and where they end. They never fall, so equal ones stand together.
+fn different<const SIZE: usize>(points: &[u8], out: &mut [u8; 2 * MOST_POINTS]) -> usize {
+    let (mut end, mut last) = (0, &[][..]);
+    for p in points.chunks_exact(SIZE) {
+        if p != last {
+            out[end..end + SIZE].copy_from_slice(p);
+            end += SIZE;
+            last = p;
+        }
+    }
+    end
+}
+
 pub fn open(card: &[u8]) -> Result<Opened, u16> {
-    let (s, n) = check(card)?;
-    let mut opened = Opened { s, n, positive: [0; 8], negative: [0; 8] };
+    let (s, _) = check(card)?;
+    let size = card[0] as usize;
+    let mut kept = [0; 2 * MOST_POINTS];
     let points = &card[offset(card, s)..];
+    let end = if size == 1 { different::<1>(points, &mut kept) } else { different::<2>(points, &mut kept) };
+    let points = &kept[..end];
+    let mut opened = Opened { s, n: end / size, positive: [0; 8], negative: [0; 8] };
     for j in 0..s {
         let body = &card[offset(card, j)..offset(card, j + 1)];
         let (positive, negative) = (&mut opened.positive[j], &mut opened.negative[j]);

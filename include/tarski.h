@@ -22,13 +22,14 @@
 extern "C" {
 #endif
 
-/* The version of this header and of the library beside it. New in 0.6.0: cards of points in the plane, which every call on cards but tarski_value
- * takes, tarski_value_at and the refusal 18; TARSKI_LONGEST_CARD has grown, and TARSKI_LONGEST_LINE_CARD is what it was. In 0.5.0: tarski_query_all and
+/* The version of this header and of the library beside it. New in 0.7.0: a point that stands on a card more than once counts once in every query, where it
+ * counted as often as it stands; no declaration has changed. In 0.6.0: cards of points in the plane, which every call on cards but tarski_value takes,
+ * tarski_value_at and the refusal 18; TARSKI_LONGEST_CARD has grown, and TARSKI_LONGEST_LINE_CARD is what it was. In 0.5.0: tarski_query_all and
  * tarski_ask_all. Since 0.4.0 tarski_query and tarski_ask give struct tarski_counts, in which `number` is what they gave before as struct tarski_number. */
 #define TARSKI_VERSION_MAJOR 0
-#define TARSKI_VERSION_MINOR 6
+#define TARSKI_VERSION_MINOR 7
 #define TARSKI_VERSION_PATCH 0
-#define TARSKI_VERSION "0.6.0"
+#define TARSKI_VERSION "0.7.0"
 
 /* The most polynomials and the most points of a card, and the most rows of a run. */
 #define TARSKI_MOST_POLYNOMIALS 8
@@ -107,9 +108,12 @@ struct tarski_product {
     uint16_t number;
 };
 
-/* ---- cards and queries: points on the line and polynomials in X where byte 0 is 1, points in the plane and polynomials in X and Y where it is 2 */
+/* ---- cards and queries: points on the line and polynomials in X where byte 0 is 1, points in the plane and polynomials in X and Y where it is 2
+ *
+ * The points of a card are a set: each distinct point, by X and Y, counts once in every query, however often it stands on the card. Distinct points with
+ * the same signs count one by one. */
 
-/* What a card says of itself; no polynomials and no points where it is refused. */
+/* What a card says of itself: `points` is its byte 2, repeats and all. No polynomials and no points where it is refused. */
 struct tarski_card {
     size_t polynomials;
     size_t points;
@@ -122,8 +126,9 @@ struct tarski_number {
     uint16_t refusal;
 };
 
-/* The Tarski query of a product: at how many points it is positive, at how many negative and at how many zero, which add up to the points; and the number
- * that the panel shows, positive less negative. 0 for each where it is refused. */
+/* The Tarski query of a product: at how many points it is positive, at how many negative and at how many zero, each distinct point counted once, so that
+ * they add up to the distinct points; and the number that the panel shows, positive less negative. Product 0 is positive at all of them. 0 for each where it
+ * is refused. */
 struct tarski_counts {
     int64_t number;
     uint16_t positive;
@@ -132,7 +137,8 @@ struct tarski_counts {
     uint16_t refusal;
 };
 
-/* An opened card: the signs of its polynomials at its points. Made by tarski_open, and read by tarski_ask and tarski_ask_all alone. */
+/* An opened card: the signs of its polynomials at its distinct points, of which there are `points`. Made by tarski_open, and read by tarski_ask and
+ * tarski_ask_all alone. */
 struct tarski_opened {
     uint16_t refusal;
     size_t polynomials;
@@ -229,7 +235,7 @@ struct tarski_step {
     union tarski_step_value value;
 };
 
-/* A row of the list that a done run has found: a pattern, and how many points have it; 0 and 0 where it is refused. */
+/* A row of the list that a done run has found: a pattern, and how many points have it, counted as the answers count them; 0 and 0 where it is refused. */
 struct tarski_row {
     struct tarski_pattern pattern;
     uint16_t count;

@@ -4,10 +4,10 @@
 use std::fmt;
 use std::mem::{offset_of, size_of};
 
-/// The version of this module and of the library beside it. New in 0.6.0: cards of points in the plane, which every call on cards but `value` takes,
-/// `value_at` and the refusal 18; `LONGEST_CARD` has grown, and `LONGEST_LINE_CARD` is what it was. In 0.5.0: `query_all` and `ask_all`. Since 0.4.0 a query
-/// gives its `Counts`, in which `number` is what it gave before.
-pub const VERSION: (u32, u32, u32) = (0, 6, 0);
+/// The version of this module and of the library beside it. New in 0.7.0: a point that stands on a card more than once counts once in every query. In 0.6.0:
+/// cards of points in the plane, which every call on cards but `value` takes, `value_at` and the refusal 18; `LONGEST_CARD` has grown, and
+/// `LONGEST_LINE_CARD` is what it was. In 0.5.0: `query_all` and `ask_all`. Since 0.4.0 a query gives its `Counts`, in which `number` is what it gave before.
+pub const VERSION: (u32, u32, u32) = (0, 7, 0);
 /// The most polynomials and the most points of a card, and the most rows of a run.
 pub const MOST_POLYNOMIALS: usize = 8;
 pub const MOST_POINTS: usize = 64;
@@ -118,8 +118,8 @@ impl From<ListRefusal> for Refusal {
     }
 }
 
-/// The Tarski query of a product: at how many points it is positive, at how many negative and at how many zero, which add up to the points; and the number
-/// that the panel shows, positive less negative.
+/// The Tarski query of a product: at how many points it is positive, at how many negative and at how many zero, each distinct point counted once, so that
+/// they add up to the distinct points; and the number that the panel shows, positive less negative.
 #[derive(Clone, Copy, Debug, Default, PartialEq, Eq, Hash)]
 pub struct Counts {
     pub number: i64,
@@ -128,7 +128,7 @@ pub struct Counts {
     pub zero: u16,
 }
 
-/// An opened card: the signs of its polynomials at its points.
+/// An opened card: the signs of its polynomials at its distinct points.
 #[repr(C)]
 #[derive(Clone)]
 pub struct Opened {
@@ -290,7 +290,7 @@ fn step(step: c::Step) -> Step {
     }
 }
 
-/// The number of polynomials and of points of a card of either kind.
+/// The number of polynomials and of points that a card of either kind says it has: a point that stands twice is two here, and one in every query.
 pub fn check(card: &[u8]) -> Result<(usize, usize), Refusal> {
     let said = unsafe { c::tarski_check(card.as_ptr(), card.len()) };
     unless(said.refusal, (said.polynomials, said.points))
@@ -309,7 +309,7 @@ pub fn value_at(card: &[u8], position: usize, x: i64, y: i64) -> Result<i64, Ref
     unless(answer.refusal, answer.number)
 }
 
-/// The Tarski query of a product on a card.
+/// The Tarski query of a product on a card, each distinct point counted once.
 pub fn query(card: &[u8], product: Product) -> Result<Counts, Refusal> {
     counts(unsafe { c::tarski_query(card.as_ptr(), card.len(), product) })
 }
@@ -331,6 +331,7 @@ impl Opened {
         self.polynomials
     }
 
+    /// How many distinct points the card has.
     pub fn points(&self) -> usize {
         self.points
     }

@@ -142,7 +142,8 @@ static void plane_cards(void) {
     SEE(tarski_query(plane_with(28, 0), plane_length, product(65535)).refusal == TARSKI_WRONG_TERMS);
 }
 
-/* The longest card: eight polynomials with the nine terms of powers 6 and of X^5 and X^4 Y, all coefficients 1,000,000, at (100, 100). */
+/* The longest card: eight polynomials with the nine terms of powers 6 and of X^5 and X^4 Y, all coefficients 1,000,000, at (100, 100) 64 times: one point;
+ * then at (37, 100) to (100, 100), which are 64. */
 static void longest_card(void) {
     static const uint8_t powers[9][2] = {{0, 6}, {1, 5}, {2, 4}, {3, 3}, {4, 1}, {4, 2}, {5, 0}, {5, 1}, {6, 0}};
     static const uint8_t million[4] = {0, 15, 66, 64};
@@ -160,7 +161,10 @@ static void longest_card(void) {
     SEE(tarski_check(made, TARSKI_LONGEST_CARD + 1).refusal == TARSKI_WRONG_LENGTH);
     SEE(tarski_value_at(made, TARSKI_LONGEST_CARD, 7, 100, 100).number == 7020000000000000000);
     SEE(tarski_value_at(made, TARSKI_LONGEST_CARD, 7, -100, 100).number == 1000000000000000000);
-    SEE(tarski_query(made, TARSKI_LONGEST_CARD, product(6560)).number == 64);
+    SEE(tarski_query(made, TARSKI_LONGEST_CARD, product(6560)).number == 1 && tarski_open(made, TARSKI_LONGEST_CARD).points == 1);
+    for (size_t k = 0; k < 64; k++)
+        made[at + 2 * k] = (uint8_t)(37 + k);
+    SEE(tarski_query(made, TARSKI_LONGEST_CARD, product(6560)).number == 64 && tarski_open(made, TARSKI_LONGEST_CARD).points == 64);
 }
 
 /* At how many of the card's points a product has this sign, by the card's values. */
@@ -245,7 +249,7 @@ static void lists(void) {
     SEE(tarski_query_all(with(12, 7), length, NULL, 0, out, 1).refusal == TARSKI_WRONG_DEGREE && out[0] == 4711);
 }
 
-/* Why a panel shows 0: X at -1, 0 and 1 is positive and negative once each; X at 0, and 0 at four points, are zero. */
+/* Why a panel shows 0: X at -1, 0 and 1 is positive and negative once each; X at 0, and 0 at three points, one of them named twice, are zero. */
 static void reasons(void) {
     static const size_t degree[2] = {1, 0};
     static const int64_t x[2] = {0, 1}, zero[1] = {0}, around[3] = {-1, 0, 1}, four[4] = {-100, 0, 0, 100};
@@ -260,9 +264,90 @@ static void reasons(void) {
     SEE(got.refusal == 0 && got.number == 0 && got.positive == 0 && got.negative == 0 && got.zero == 1);
     written = tarski_write(degree + 1, 1, zero, 1, four, 4, made, sizeof made);
     got = tarski_query(made, written.length, product(1));
-    SEE(got.refusal == 0 && got.number == 0 && got.positive == 0 && got.negative == 0 && got.zero == 4);
+    SEE(got.refusal == 0 && got.number == 0 && got.positive == 0 && got.negative == 0 && got.zero == 3);
     got = tarski_query(made, written.length, product(0));
-    SEE(got.refusal == 0 && got.number == 4 && got.positive == 4 && got.negative == 0 && got.zero == 0);
+    SEE(got.refusal == 0 && got.number == 3 && got.positive == 3 && got.negative == 0 && got.zero == 0);
+}
+
+/* A repeated point counts once. The counts of a product at so many points. */
+static int shows(struct tarski_counts got, unsigned points, unsigned positive, unsigned negative) {
+    return got.refusal == 0 && got.positive == positive && got.negative == negative && got.zero == points - positive - negative
+        && got.number == (int64_t)positive - (int64_t)negative;
+}
+
+/* A card that names n points: check gives n; opened, it has the different ones; product 0 is positive at each of them, and product a has these counts, which
+ * add up to them; asked in both ways. */
+static int counted(const uint8_t *bytes, size_t size, size_t n, unsigned points, unsigned a, unsigned positive, unsigned negative) {
+    struct tarski_opened opened = tarski_open(bytes, size);
+    return tarski_check(bytes, size).points == n && opened.refusal == 0 && opened.points == points
+        && shows(tarski_query(bytes, size, product(0)), points, points, 0) && shows(tarski_ask(&opened, product(0)), points, points, 0)
+        && shows(tarski_query(bytes, size, product(a)), points, positive, negative) && shows(tarski_ask(&opened, product(a)), points, positive, negative);
+}
+
+/* X at points of the line: how many are named, how many are different, at how many of these X is positive and negative. */
+static void repeated(void) {
+    static const struct {
+        size_t n;
+        unsigned points, positive, negative;
+        int64_t x[8];
+    } lines[9] = {
+        {2, 1, 1, 0, {5, 5}},
+        {8, 1, 0, 0, {0, 0, 0, 0, 0, 0, 0, 0}},
+        {3, 2, 1, 1, {-1, -1, 2}},
+        {3, 2, 1, 1, {-1, 2, 2}},
+        {4, 3, 1, 1, {-1, 0, 0, 1}},
+        {6, 3, 1, 1, {-1, -1, 0, 0, 2, 2}},
+        {4, 4, 3, 1, {-9, 1, 2, 3}}, /* 1, 2 and 3 have one pattern */
+        {5, 3, 3, 0, {1, 2, 2, 3, 3}},
+        {8, 4, 2, 1, {-2, -2, -2, 0, 0, 3, 100, 100}},
+    };
+    static const size_t degree[1] = {1};
+    static const int64_t x[2] = {0, 1};
+    uint8_t made[TARSKI_LONGEST_LINE_CARD];
+    struct tarski_opened opened;
+    struct tarski_run run;
+    struct tarski_step step;
+    size_t size = 0;
+    for (int k = 0; k < 9; k++) {
+        size = tarski_write(degree, 1, x, 2, lines[k].x, lines[k].n, made, sizeof made).length;
+        SEE(counted(made, size, lines[k].n, lines[k].points, 1, lines[k].positive, lines[k].negative));
+        SEE(counted(made, size, lines[k].n, lines[k].points, 2, lines[k].positive + lines[k].negative, 0));
+    }
+    /* the last of them, asked to the end: 0 at one point, + at two, - at one */
+    opened = tarski_open(made, size);
+    for (step = tarski_start(&run, 1); step.kind == TARSKI_ASK;)
+        step = tarski_answer(&run, tarski_ask(&opened, step.value.product).number);
+    SEE(step.kind == TARSKI_DONE && tarski_asked(&run) == 3 && run.points == 4 && run.rows == 3);
+    SEE(tarski_row(&run, 0).count == 1 && tarski_row(&run, 1).count == 2 && tarski_row(&run, 2).count == 1 && tarski_row(&run, 2).pattern.number == 2);
+}
+
+/* The same of X and Y in the plane, where points are different by X or by Y. */
+static void repeated_in_plane(void) {
+    static const struct {
+        size_t n;
+        unsigned points, positive[2], negative[2];
+        int8_t at[6][2];
+    } planes[8] = {
+        {3, 3, {3, 1}, {0, 1}, {{4, -1}, {4, 0}, {4, 7}}},                                /* equal X */
+        {3, 3, {1, 3}, {1, 0}, {{-1, 4}, {0, 4}, {7, 4}}},                                /* equal Y */
+        {3, 3, {3, 3}, {0, 0}, {{1, 1}, {1, 2}, {2, 1}}},                                 /* one pattern */
+        {3, 2, {1, 1}, {1, 1}, {{-1, 1}, {-1, 1}, {1, -1}}},                              /* the first twice */
+        {3, 2, {1, 1}, {1, 1}, {{-1, 1}, {1, -1}, {1, -1}}},                              /* the last twice */
+        {6, 1, {1, 0}, {0, 1}, {{3, -3}, {3, -3}, {3, -3}, {3, -3}, {3, -3}, {3, -3}}},   /* all equal */
+        {6, 3, {0, 1}, {2, 1}, {{-2, -1}, {-2, -1}, {-2, 4}, {-2, 4}, {0, 0}, {0, 0}}},   /* each twice, two with equal X */
+        {6, 4, {3, 2}, {0, 1}, {{0, 2}, {0, 2}, {5, -5}, {5, 0}, {5, 0}, {6, 2}}},        /* some twice, equal X, equal Y */
+    };
+    uint8_t made[36] = {2, 2, 0, 0, 0, 10, 0, 17, 0, 24, 1, 1, 0, 0, 0, 0, 1, 1, 0, 1, 0, 0, 0, 1};
+    for (int k = 0; k < 8; k++) {
+        made[2] = (uint8_t)planes[k].n;
+        memcpy(made + 24, planes[k].at, sizeof planes[k].at);
+        for (unsigned j = 0; j < 2; j++)
+            SEE(counted(made, 24 + 2 * planes[k].n, planes[k].n, planes[k].points, j ? 3 : 1, planes[k].positive[j], planes[k].negative[j]));
+    }
+    plane_with(44, 253), changed[45] = 4; /* of the circle's card, (-3, 4) a second time in place of (0, 0) */
+    SEE(counted(changed, plane_length, 5, 4, 1, 1, 0));
+    plane_with(44, 253), changed[45] = 5; /* (-3, 5) in place of (0, 0) */
+    SEE(counted(changed, plane_length, 5, 5, 1, 2, 0));
 }
 
 /* A one-field struct is passed like its field, and what a register holds above its 16 bits has no effect: the same calls with such bits. */
@@ -472,7 +557,7 @@ int main(int count, char **words) {
     length = given(words[1], card);
     plane_length = given(words[2], plane);
     SEE(length == 42 && plane_length == 52);
-    SEE(strcmp(TARSKI_VERSION, "0.6.0") == 0 && TARSKI_VERSION_MAJOR == 0 && TARSKI_VERSION_MINOR == 6 && TARSKI_VERSION_PATCH == 0);
+    SEE(strcmp(TARSKI_VERSION, "0.7.0") == 0 && TARSKI_VERSION_MAJOR == 0 && TARSKI_VERSION_MINOR == 7 && TARSKI_VERSION_PATCH == 0);
     SEE(TARSKI_LONGEST_CARD == 590 && TARSKI_LONGEST_LINE_CARD == 318);
     if (!wrong) {
         types();
@@ -482,6 +567,8 @@ int main(int count, char **words) {
         queries();
         lists();
         reasons();
+        repeated();
+        repeated_in_plane();
         registers();
         solver();
         written();

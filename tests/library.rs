@@ -75,6 +75,53 @@ fn plane_cards(card: &[u8]) {
     assert_eq!(tarski::open(&with(card, 28, 0)).err(), Some(Refusal::WRONG_TERMS));
 }
 
+/// A card that names n points: check gives n; opened, it has the different ones, of which product a is positive, negative and zero at so many.
+fn counted(card: &[u8], n: usize, a: u16, counts: (u16, u16, u16)) {
+    let (positive, negative, zero) = counts;
+    let points = positive + negative + zero;
+    let opened = tarski::open(card).unwrap();
+    assert_eq!((tarski::check(card).unwrap().1, opened.points()), (n, points as usize));
+    for (product, positive, negative, zero) in [(Product(0), points, 0, 0), (Product(a), positive, negative, zero)] {
+        let counts = Counts { number: positive as i64 - negative as i64, positive, negative, zero };
+        assert_eq!((tarski::query(card, product), opened.ask(product)), (Ok(counts), Ok(counts)));
+    }
+}
+
+fn repeated(circle: &[u8]) {
+    // X at points of the line; of the last but one, 1, 2 and 3 have one pattern
+    let lines: [(&[i64], (u16, u16, u16)); 7] = [
+        (&[5, 5], (1, 0, 0)),
+        (&[0; 64], (0, 0, 1)),
+        (&[-1, -1, 2], (1, 1, 0)),
+        (&[-1, 2, 2], (1, 1, 0)),
+        (&[-1, -1, 0, 0, 2, 2], (1, 1, 1)),
+        (&[-9, 1, 2, 3], (3, 1, 0)),
+        (&[-2, -2, -2, 0, 0, 3, 100, 100], (2, 1, 1)),
+    ];
+    let mut out = [0; tarski::LONGEST_LINE_CARD];
+    for (points, counts) in lines {
+        let length = tarski::write(&[1], &[0, 1], points, &mut out).unwrap();
+        counted(&out[..length], points.len(), 1, counts);
+    }
+    // X at points of the plane: with equal X, with equal Y, with one pattern, one of them twice, equal X beside a point that is there twice, all equal
+    let planes: [(&[[i8; 2]], (u16, u16, u16)); 6] = [
+        (&[[-4, -1], [-4, 0], [-4, 7]], (0, 3, 0)),
+        (&[[-1, 4], [0, 4], [7, 4]], (1, 1, 1)),
+        (&[[1, 1], [1, 2], [2, 1]], (3, 0, 0)),
+        (&[[-1, 1], [-1, 1], [1, -1]], (1, 1, 0)),
+        (&[[-2, -1], [-2, 4], [-2, 4], [0, 4]], (0, 2, 1)),
+        (&[[3, -3]; 64], (1, 0, 0)),
+    ];
+    for (points, counts) in planes {
+        let mut card = vec![2, 1, points.len() as u8, 0, 0, 8, 0, 15, 1, 1, 0, 0, 0, 0, 1];
+        card.extend(points.iter().flatten().map(|&v| v as u8));
+        counted(&card, points.len(), 1, counts);
+    }
+    counted(circle, 5, 1, (1, 1, 3));
+    counted(&with(&with(circle, 44, 253), 45, 4), 5, 1, (1, 0, 3)); // (−3, 4) a second time in place of (0, 0)
+    counted(&with(&with(circle, 44, 253), 45, 5), 5, 1, (2, 0, 3)); // (−3, 5) in place of (0, 0)
+}
+
 fn lists(card: &[u8]) {
     let opened = tarski::open(card).unwrap();
     // the list, the room, what is given and what stands in the slice then, where 4711 stood
@@ -188,13 +235,14 @@ fn main() {
     let card = std::fs::read(word).unwrap();
     let circle = std::fs::read(std::env::args().nth(2).expect("usage: library CARD CIRCLE | texts")).unwrap();
     assert_eq!((card.len(), circle.len()), (42, 52));
-    assert_eq!(tarski::VERSION, (0, 6, 0));
+    assert_eq!(tarski::VERSION, (0, 7, 0));
     assert_eq!(Refusal(3).to_string(), "refused by 3: s is not 1 to 8, or n is above 64");
     let limits = [tarski::MOST_POLYNOMIALS, tarski::MOST_POINTS, tarski::MOST_ROWS, tarski::MOST_QUESTIONS, tarski::LONGEST_CARD, tarski::MOST_STACK];
     assert_eq!(limits, [8, 64, 64, 593, 590, 32768]);
     assert_eq!(tarski::LONGEST_LINE_CARD, 318);
     cards(&card);
     plane_cards(&circle);
+    repeated(&circle);
     lists(&card);
     solver(&card);
     written(&card);

@@ -3,13 +3,14 @@
 
     tools/compare.py [--seed N|day] [--cards N] [PROGRAM]        (6,000 cards take half a minute)
 
-The route here: a card is parsed by slicing from the front, a polynomial of either kind into a dictionary of its monomials; the pattern of a point
-comes straight from the values of the polynomials there; a query multiplies the values, exactly; the rows are the patterns counted; the adapted list
-of a round is found as 000 has it, the first products whose rows of signs are independent, by elimination, where that is short enough, else by its
-recursion over sets. There is no solver.
-The cards are those of examples/, inputs that are no cards, one of them slow and one long, and then cards drawn from the seed, a number or that of
-the day: sound ones of every size, and damaged ones of every kind, every other one with points in the plane. It fails where a number that refuses a card
-of either kind, a kind of damage, a run of 593 questions, or a list of more than three polynomials found by independence did not occur.
+The route here: a card is parsed by slicing from the front, a polynomial of either kind into a dictionary of its monomials; the points are made a set
+of pairs of X and Y, so that each counts once however often it stands on the card; the pattern of a point comes straight from the values of the
+polynomials there; a query multiplies the values, exactly; the rows are the patterns counted; the adapted list of a round is found as 000 has it, the first
+products whose rows of signs are independent, by elimination, where that is short enough, else by its recursion over sets. There is no solver.
+The cards are those of examples/, inputs that are no cards, one of them slow and one long, cards of points repeated in every way, and then cards drawn from
+the seed, a number or that of the day: sound ones of every size, and damaged ones of every kind, every other one with points in the plane, the points
+repeated in every way in turn. It fails where a number that refuses a card of either kind, a kind of damage, a case of repeated points on either kind of
+card, a run of 593 questions, or a list of more than three polynomials found by independence did not occur.
 """
 import argparse
 import collections
@@ -175,7 +176,7 @@ def printout(card):
     except Refused as refused:
         return f'R {refused.args[0]}\n'
     s = len(polynomials)
-    values = [[sum(c * x ** a * y ** b for (a, b), c in p.items()) for p in polynomials] for x, y in points]
+    values = [[sum(c * x ** a * y ** b for (a, b), c in p.items()) for p in polynomials] for x, y in set(points)]
     patterns = [sum((0, 1, 2)[sign_of(v)] * 3 ** j for j, v in enumerate(point)) for point in values]
     asked = [0]
     for i in range(s if points else 0):
@@ -235,11 +236,28 @@ def polynomial(draw, points):
     return [draw.randint(-20, 20), 1]
 
 
-def sound(draw):
-    s = draw.choice([1, 2, 3, 3, 4, 5, 6, 7, 8, 8])
+# How often different points stand on a card, as far as it has room for them, in any order; None: as they come.
+WAYS = (None, [1] * 64, [64], [2] + [1] * 62, [2] * 32, [3, 1, 2, 5] * 6)
+
+
+def spread(draw, way, wide, high):
+    """Points of a rectangle, never falling, as lists of X and Y; the rectangle is wider where it has no room for the different ones."""
     n = draw.choice([0, 1, 2, 3, draw.randint(4, 20), draw.randint(21, 64), 64])
-    reach = draw.choice([3, 10, 30, 100])
-    points = sorted(draw.randint(-reach, reach) for _ in range(n))
+    if not way:
+        return sorted([draw.randint(-wide, wide), draw.randint(-high, high)] for _ in range(n))
+    often, different = [], set()
+    while sum(often) < n:
+        often.append(min(way[len(often)], n - sum(often)))
+    draw.shuffle(often)
+    wide = wide if (2 * wide + 1) * (2 * high + 1) >= len(often) else 100
+    while len(different) < len(often):
+        different.add((draw.randint(-wide, wide), draw.randint(-high, high)))
+    return [list(point) for point, count in zip(sorted(different), often) for _ in range(count)]
+
+
+def sound(draw, way):
+    s = draw.choice([1, 2, 3, 3, 4, 5, 6, 7, 8, 8])
+    points = [x for x, _ in spread(draw, way, draw.choice([3, 10, 30, 100]), 0)]
     return [polynomial(draw, points) for _ in range(s)], points
 
 
@@ -274,11 +292,9 @@ def plane_polynomial(draw, points):
     return [(a, b, c) for (a, b), c in sorted(p.items())]
 
 
-def sound_plane(draw):
+def sound_plane(draw, way):
     s = draw.choice([1, 2, 3, 3, 4, 5, 6, 7, 8, 8])
-    n = draw.choice([0, 1, 2, 3, draw.randint(4, 20), draw.randint(21, 64), 64])
-    reach = draw.choice([2, 4, 4, 9, 100])
-    points = sorted([draw.randint(-reach, reach), draw.randint(-reach, reach)] for _ in range(n))
+    points = spread(draw, way, *draw.choice([(2, 2), (4, 4), (4, 4), (9, 9), (100, 100), (0, 40), (40, 0), (1, 9)]))
     return [plane_polynomial(draw, points) for _ in range(s)], points
 
 
@@ -290,8 +306,8 @@ def moved(j, by):
     return lambda places: [p + by * (k == j) for k, p in enumerate(places)]
 
 
-def damaged(draw, kind_of_card):
-    polynomials, points = (sound, sound_plane)[kind_of_card - 1](draw)
+def damaged(draw, kind_of_card, way):
+    polynomials, points = (sound, sound_plane)[kind_of_card - 1](draw, way)
     put = (write, write_plane)[kind_of_card - 1]
     card = bytearray(put(polynomials, points))
     kind = draw.randrange(KINDS)
@@ -381,6 +397,54 @@ def fixed():
     yield b'\1' * 1_000_000
 
 
+def repeated():
+    """Cards that have every case of repeated points: X, X^2 - 1 and X^3 - 9 X on the line; X - Y, X^2 + Y^2 - 2 and X Y in the plane, at points of a column,
+    of a row and of a square; X^2 - 1, and X Y, alone, with equal values at different points."""
+    lists = [[1] * 2, [0] * 3, [-2] * 64, [-3, -3, 0, 1], [-3, 0, 0, 1], [-3, 0, 1, 1], [-9, -1, 0, 2], [5, 6, 7], [5, 6, 6, 7]]
+    lists += [[-3, -3, -1, -1, 4, 4], [-3, -3, -3, 0, 0, 0, 0, 4], [-100, -100, -100, 0, 100, 100], [5, 5, 5, 6, 7, 7], sorted(2 * list(range(-20, 12)))]
+    lists += [list(range(-40, 24)), [-40] + list(range(-40, 23)), list(range(-40, 23)) + [22]]
+    square = [(x, y) for x in range(-4, 4) for y in range(-4, 4)]
+    places = [[(1, v) for v in found] for found in lists] + [[(v, 1) for v in found] for found in lists]
+    places += [square, sorted(2 * square[::2]), sorted(square[1:] + [(0, -3)]), [(-2, 2)] * 2 + [(2, -2)] * 3 + [(2, 2)]]
+    for found in lists:
+        yield write([[0, 1], [-1, 0, 1], [0, -9, 0, 1]], found)
+    for found in places:
+        yield write_plane([[(0, 1, -1), (1, 0, 1)], [(0, 0, -2), (0, 2, 1), (2, 0, 1)], [(1, 1, 1)]], found)
+    yield from (write([[-1, 0, 1]], [-3, -1, 1, 3, 3]), write_plane([[(1, 1, 1)]], [(-1, -1), (0, 5), (1, 1), (1, 1), (1, 2), (2, 1)]))
+
+
+FEWER = 'product 0 does not show byte 2'
+
+
+def repeats(card, printed):
+    """Of a sound card and its printout, which cases of repeated points it has."""
+    points = parse(card)[1]
+    n, often = len(points), collections.Counter(points)
+    counts = sorted(often.values())
+    pair, together = n > 2 and counts == [1] * (n - 2) + [2], any(line.startswith('S') and line.split()[2] != '1' for line in printed.splitlines())
+    found = {
+        'all points equal': n > 1 and len(often) == 1,
+        'one pair at the first place': pair and points[0] == points[1],
+        'one pair at the last place': pair and points[-2] == points[-1],
+        'one pair in between': pair and points[0] != points[1] and points[-2] != points[-1],
+        'pairs throughout': len(often) > 1 and set(counts) == {2},
+        'a point three times or more': len(often) > 1 and counts[-1] > 2,
+        'no point twice': 1 < n == len(often),
+        '64 points all equal': n == 64 and len(often) == 1,
+        '64 points with one pair': n == 64 and pair,
+        '64 points in pairs': n == 64 and set(counts) == {2},
+        '64 points all different': len(often) == 64,
+        FEWER: not printed.startswith(f'Q 0 {card[2]}\n'),
+        'different points with equal patterns and a point twice': together and len(often) < n,
+        'different points with equal patterns and none twice': together and len(often) == n,
+    }
+    for name, part in (('X', 0), ('Y', 1)) if card[0] == 2 else ():
+        having = collections.Counter(point[part] for point in often)
+        found[f'different points with equal {name} and one of them twice'] = any(often[point] > 1 and having[point[part]] > 1 for point in often)
+        found[f'different points with equal {name} and none twice'] = len(having) < len(often) == n
+    return found
+
+
 def ask(program, card, slowly=False):
     """What the program prints; where slowly, the card comes in pieces with pauses between them."""
     told = subprocess.Popen([program], stdin=subprocess.PIPE, stdout=subprocess.PIPE)
@@ -405,12 +469,13 @@ def main():
     words = words.parse_args()
     seed = int(datetime.date.today().strftime('%Y%m%d') if words.seed == 'day' else words.seed)
     draw = random.Random(seed)
-    makers = (lambda: write(*sound(draw)), lambda: write_plane(*sound_plane(draw))) * 2 + (lambda: damaged(draw, 1), lambda: damaged(draw, 2))
-    drawn = (makers[number % 6]() for number in range(words.cards))
-    told = collections.Counter()
+    makers = (lambda way: write(*sound(draw, way)), lambda way: write_plane(*sound_plane(draw, way))) * 2
+    makers += (lambda way: damaged(draw, 1, way), lambda way: damaged(draw, 2, way))
+    drawn = (makers[number % 6](WAYS[number // 6 % len(WAYS)]) for number in range(words.cards))
+    told, twice = collections.Counter(), {}
     most = 0
     cards = [(card, slowly) for card in fixed() for slowly in (False, True) if len(card) < 1000 or not slowly]
-    for number, (card, slowly) in enumerate(itertools.chain(cards, ((card, False) for card in drawn))):
+    for number, (card, slowly) in enumerate(itertools.chain(cards, ((card, False) for card in itertools.chain(repeated(), drawn)))):
         want = printout(card)
         got = ask(words.program, card, slowly)
         if got != want.encode():
@@ -419,15 +484,19 @@ def main():
             return 1
         kind = card[0] if len(card) >= 4 and card[0] in (1, 2) else 0
         told[kind, want.split()[1] if want.startswith('R') else 'sound'] += 1
+        for case, so in {} if want.startswith('R') else repeats(card, want).items():
+            twice[kind, case] = twice.get((kind, case), 0) + so
         most = max(most, want.count('Q'))
     sound_ones, numbers = [told[kind, 'sound'] for kind in (1, 2)], sorted({key for _, key in told} - {'sound'}, key=int)
     refused = ', '.join(f'{sum(told[kind, k] for kind in range(3))} by {k}' for k in numbers)
-    print(f'seed {seed}: {sum(told.values())} cards, {sound_ones[0]} sound on the line, {sound_ones[1]} in the plane, the longest run {most} questions; '
-          f'refused: {refused}; {sum(independent.values())} lists found by independence, {sum(independent[k] for k in independent if k > 3)} of them of more than 3 '
-          'polynomials; no difference')
+    fewer = sum(count for (_, case), count in twice.items() if case == FEWER)
+    print(f'seed {seed}: {sum(told.values())} cards, {sound_ones[0]} sound on the line, {sound_ones[1]} in the plane, {fewer} of them with repeated points, '
+          f'{len(twice)} cases of these, the longest run {most} questions; refused: {refused}; {sum(independent.values())} lists found by independence, '
+          f'{sum(independent[k] for k in independent if k > 3)} of them of more than 3 polynomials; no difference')
     either = ('sound', '1', '2', '3', '4', '5', '6')
     needed = [(0, '1'), (0, '2')] + [(1, k) for k in either + ('16', '17')] + [(2, k) for k in either + ('18',)]
     missing = [f'{k} with byte 0 {kind or "other"}' for kind, k in needed if not told[kind, k]]
+    missing += [f'{case} with byte 0 {kind}' for kind, case in twice if not twice[kind, case]]
     missing += [f'damage of kind {k} with byte 0 {kind}' for kind in (1, 2) for k in range(KINDS) if not damage[kind, k]]
     missing += [] if most == 593 else ['a run of 593 questions']
     missing += [] if any(k > 3 for k in independent) else ['a list of more than 3 polynomials found by independence']

@@ -4,14 +4,17 @@
 usage: python3 tools/compare_cards.py [SEED|day [SOUND [BASES]]]    compares; prints one line of counts, exits 1 at a difference
        python3 tools/compare_cards.py --data                        writes crates/card_tests/data/cards and crates/card_tests/stdout
 
-SOUND cards are drawn, of every s and every n in turn, every other one with points in the plane. BASES more are drawn and damaged: cut at every length,
-every byte changed by some values, every cause of the refusal table at every place that it can have, and two such causes at once, at random and within
-one polynomial. Each card is asked about some products. The second reader goes another way: it takes the bytes off one after the other, keeps a polynomial
-as a dictionary of its monomials, whichever kind of card it is on, works out values by powers, and a query, its three counts and the panel number, by the
-exact product of the values to their powers and not by signs. SEED (day: that of the day), SOUND and BASES decide every card. It fails where a cause that
-refuses a card of either kind, or one of the cases in CASES, did not occur, and where no query showed 0 for one of the two reasons that there are.
+SOUND cards are drawn, of every s and every n in turn, every other one with points in the plane, their points repeated in every way in turn; before them
+come cards that have each way for sure. BASES more are drawn and damaged: cut at every length, every byte changed by some values, every cause of the refusal
+table at every place that it can have, and two such causes at once, at random and within one polynomial. Each card is asked about some products. The second
+reader goes another way: it takes the bytes off one after the other, keeps a polynomial as a dictionary of its monomials, whichever kind of card it is on,
+works out values by powers, at the points as a set, pairs of X and Y, so that each counts once however often it stands on the card, and a query, its three
+counts and the panel number, by the exact product of the values to their powers and not by signs. n, as the card is read, is byte 2, repeats and all. SEED
+(day: that of the day), SOUND and BASES decide every card. It fails where a cause that refuses a card of either kind, one of the cases in CASES, or on either
+kind of card one of the cases of repeated points did not occur, and where no query showed 0 for one of the two reasons that there are.
 """
 
+import collections
 import datetime
 import math
 import os
@@ -126,6 +129,11 @@ def value(terms, x, y=0):
     return sum(c * x ** a * y ** b for (a, b), c in terms.items())
 
 
+def values_at(polynomials, points):
+    """The values of all polynomials at each point. The points are a set: one that stands on the card more than once counts once. Document 02, wish 7."""
+    return [[value(terms, x, y) for *_, terms in polynomials] for x, y in set(points)]
+
+
 def query(values, product):
     """At how many points the product of value^power is positive, negative and 0, and the sum over the points of its sign; the values are those of all
     polynomials at each point. Python too has 0**0 == 1."""
@@ -167,7 +175,7 @@ def answers(card, products):
     lines = ['S %d %d' % (len(polynomials), len(points))]
     lines += [position(card, 0, *found) for found in polynomials]
     lines.append(position(card, 14))
-    values = [[value(terms, x, y) for *_, terms in polynomials] for x, y in points]
+    values = values_at(polynomials, points)
     for a in products:
         shown = '%d %d %d %d' % tuple(query(values, a)) if a < 3 ** len(polynomials) else 'R 13'
         lines.append('Q %d %s %s' % (a, shown, shown))
@@ -220,7 +228,39 @@ def polynomial(rng):
     return c if d == 0 or c[d] else c[:d] + [1]
 
 
-def points(rng, n):
+# How the points of a sound card are repeated.
+WAYS = ('as they come', 'all different', 'all equal', 'one pair', 'pairs', 'the first and the last twice', 'runs')
+
+
+def often(rng, way, n):
+    """How often each of the different points stands on a card of n points."""
+    if way == 'all equal':
+        return [n] * (n > 0)
+    if way == 'one pair' and n > 1:
+        place = rng.choice([0, n - 2, rng.randrange(n - 1)])
+        return [1] * place + [2] + [1] * (n - 2 - place)
+    if way == 'pairs':
+        return [2] * (n // 2) + [1] * (n % 2)
+    if way == 'the first and the last twice' and n > 3:
+        return [2] + [1] * (n - 4) + [2]
+    counts = []
+    while sum(counts) < n:
+        counts.append(min(rng.choice([1, 2, 3, 4, 9]), n - sum(counts)) if way == 'runs' else 1)
+    return counts
+
+
+def repeated(rng, way, n, rectangles):
+    """n points, never falling, of one of the rectangles that have room for the different ones: each goes so far to either side, and so far up and down."""
+    counts = often(rng, way, n)
+    wide, high = rng.choice([(w, h) for w, h in rectangles if (2 * w + 1) * (2 * h + 1) >= len(counts)])
+    column = 2 * high + 1
+    places = sorted(rng.sample(range((2 * wide + 1) * column), len(counts)))
+    return [(place // column - wide, place % column - high) for place, count in zip(places, counts) for _ in range(count)]
+
+
+def points(rng, n, way):
+    if way != 'as they come':
+        return [x for x, _ in repeated(rng, way, n, [(3, 0), (10, 0), (32, 0), (FURTHEST, 0)])]
     reach = rng.choice([0, 3, 10, 10, FURTHEST])
     drawn = [rng.randint(-reach, reach) for _ in range(n)]
     if n and rng.random() < 0.3:
@@ -228,8 +268,9 @@ def points(rng, n):
     return sorted(drawn)
 
 
-def sound(rng, s, n):
-    return write([polynomial(rng) for _ in range(s)], points(rng, n))
+def sound(rng, s, n, way=None):
+    """A card of points on the line, repeated in one of WAYS, or in any."""
+    return write([polynomial(rng) for _ in range(s)], points(rng, n, way or rng.choice(WAYS)))
 
 
 def times(p, q):
@@ -260,14 +301,34 @@ def plane_polynomial(rng):
     return {powers: rng.choice([-1, 1]) * (most if kind == 'extreme' else rng.randint(1, most)) for powers in chosen}
 
 
-def sound_plane(rng, s, n):
-    """Points in a square, near the lines, and some of them more than once."""
+def plane_points(rng, n, way):
+    """Points in a square, near the lines, in columns and in rows."""
+    if way != 'as they come':
+        return repeated(rng, way, n, [(0, 32), (32, 0), (1, 12), (12, 1), (4, 4), (6, 6), (FURTHEST, FURTHEST)])
     reach = rng.choice([0, 1, 3, 6, 6, FURTHEST])
     drawn = [(rng.randint(-reach, reach), rng.randint(-reach, reach)) for _ in range(n)]
     for k in range(n):
         if rng.random() < 0.1:
             drawn[k] = rng.choice([drawn[0], (-FURTHEST, FURTHEST), (FURTHEST, -FURTHEST), (FURTHEST, FURTHEST)])
-    return write_plane([plane_polynomial(rng) for _ in range(s)], sorted(drawn))
+    return sorted(drawn)
+
+
+def sound_plane(rng, s, n, way=None):
+    return write_plane([plane_polynomial(rng) for _ in range(s)], plane_points(rng, n, way or rng.choice(WAYS)))
+
+
+def every_repeat():
+    """Cards of two polynomials that have every case of repeated points: X and X^2 - 16 on the line; X - Y and X^2 + Y^2 - 25 in the plane, at points of a
+    column, of a row and of a square; X^2 - 16 twice, and the circle twice, with equal values at different points."""
+    lists = [[5] * 2, [-4] * 3, [0] * 64, [-4, -4, 0, 3], [-4, 0, 0, 3], [-4, 0, 3, 3], [-4, 0, 3, 4, 9], [-FURTHEST] * 2 + [FURTHEST] * 2]
+    lists += [[-9, -9, -4, -4, 0, 0, 9, 9], [-4, -4, -4, 0, 0, 3, 9, 9, 9, 9, 11], [-9, -9, -9, 0, 9, 9], sorted(2 * list(range(-16, 16)))]
+    lists += [list(range(-32, 32)), [-32] + list(range(-32, 31)), list(range(-32, 31)) + [30]]
+    square = [(x, y) for x in range(-4, 4) for y in range(-4, 4)]
+    in_plane = [[(3, v) for v in found] for found in lists] + [[(v, 3) for v in found] for found in lists]
+    in_plane += [square, sorted(square[::2] * 2), sorted(square[:63] + [(1, -2)]), [(-1, -1), (-1, 1), (-1, 1), (1, -1), (1, -1), (1, 1)]]
+    parabola, diagonal, circle = [-16, 0, 1], {(0, 1): -1, (1, 0): 1}, {(0, 0): -25, (0, 2): 1, (2, 0): 1}
+    cards = [write([[0, 1], parabola], found) for found in lists] + [write_plane([diagonal, circle], found) for found in in_plane]
+    return cards + [write([parabola] * 2, [-5, -4, -4, 0, 4, 5, 5]), write_plane([circle] * 2, [(-4, 3), (3, -4), (3, 4), (3, 4), (4, 4), (5, 5), (5, 5)])]
 
 
 def products(rng, s):
@@ -423,6 +484,64 @@ def damaged(rng, base):
     return found + [(card, case) for case, cards in named.items() for card in rng.sample(cards, min(len(cards), 6))]
 
 
+# ---- repeated points
+
+
+def repeats(card):
+    """Of a sound card, which cases of repeated points it has."""
+    polynomials, points = read(card)
+    n, stands = len(points), collections.Counter(points)
+    counts = sorted(stands.values())
+    pair = n > 2 and counts == [1] * (n - 2) + [2]
+    values = {point: tuple(value(terms, *point) for *_, terms in polynomials) for point in stands}
+    signs = {point: tuple((v > 0) - (v < 0) for v in values[point]) for point in stands}
+    again = [point for point in stands if stands[point] > 1]
+    at_them = {sign for point in again for sign in signs[point]}
+
+    def shared(part):
+        """How many different points have a part that another one has too, and how many of these are repeated."""
+        having = collections.Counter(map(part, stands))
+        return [len([point for point in some if having[part(point)] > 1]) for some in (stands, again)]
+
+    found = {
+        'all points equal': n > 1 and len(stands) == 1,
+        'one pair at the first place': pair and points[0] == points[1],
+        'one pair at the last place': pair and points[-2] == points[-1],
+        'one pair in between': pair and points[0] != points[1] and points[-2] != points[-1],
+        'pairs throughout': len(stands) > 1 and set(counts) == {2},
+        'a point three times or more': len(stands) > 1 and counts[-1] > 2,
+        'no point twice': 1 < n == len(stands),
+        '64 points all equal': n == 64 and len(stands) == 1,
+        '64 points with one pair': n == 64 and pair,
+        '64 points in pairs': n == 64 and set(counts) == {2},
+        '64 points all different': len(stands) == 64,
+        'a point twice where a polynomial is positive': 1 in at_them,
+        'a point twice where a polynomial is negative': -1 in at_them,
+        'a point twice where a polynomial is 0': 0 in at_them,
+        'different points with equal patterns': shared(signs.get)[0],
+        'different points with equal patterns and one of them twice': shared(signs.get)[1],
+        'different points with equal patterns and none twice': shared(signs.get)[0] and not again,
+        'different points with equal values': shared(values.get)[0],
+    }
+    if card[0] == PLANE:
+        for name, part in (('X', lambda point: point[0]), ('Y', lambda point: point[1])):
+            found['different points with equal %s' % name] = shared(part)[0]
+            found['different points with equal %s and one of them twice' % name] = shared(part)[1]
+            found['different points with equal %s and none twice' % name] = shared(part)[0] and not again
+        found['X and Y changed about'] = any(x != y and (y, x) in stands for x, y in stands)
+    return {case: bool(so) for case, so in found.items()}
+
+
+def count_repeats(cards):
+    """On how many sound cards of each kind each case of repeated points occurs."""
+    seen = {}
+    for card in cards:
+        for case, so in repeats(card).items():
+            key = '%s: %s' % (kind_of(card), case)
+            seen[key] = seen.get(key, 0) + so
+    return seen
+
+
 # ---- the comparison
 
 
@@ -487,14 +606,15 @@ def with_every_case(rng):
 
 
 def draw(seed, sounds, bases):
-    """The sound cards and the damaged ones, each with products and its case; every other one is of points in the plane."""
+    """The sound cards and the damaged ones, each with products and its case; every other one that is drawn is of points in the plane."""
     rng = random.Random(seed)
-    whole, broken = [], []
+    whole, broken = [(card, list(range(10)), '') for card in every_repeat()], []
     for i in range(sounds):
-        s, n = 1 + i // 2 % 8, i // 8 % 65
-        whole.append(((sound_plane if i % 2 else sound)(rng, s, n), products(rng, s), ''))
+        s, n, way = 1 + i // 2 % 8, i // 8 % 65, WAYS[i // 2 % len(WAYS)]
+        whole.append(((sound_plane if i % 2 else sound)(rng, s, n, way), products(rng, s), ''))
     for i in range(bases):
-        base = (sound_plane if i % 2 else sound)(rng, 1 + i // 2 % 8, rng.choice([0, 1, 2, 3, 5, 9, 17, 64]))
+        n, way = (5, 'all different') if i == 0 else (rng.choice([0, 1, 2, 3, 5, 9, 17, 64]), None)
+        base = (sound_plane if i % 2 else sound)(rng, 1 + i // 2 % 8, n, way)
         base = with_every_case(rng) if i == 1 else base
         broken += [(card, [rng.randrange(27), 65535], case) for card, case in damaged(rng, base)]
     return whole, broken
@@ -505,8 +625,9 @@ def show(seed, sounds, bases):
     never occurred."""
     whole, broken = draw(seed, sounds, bases)
     seen, nothing = compare(whole + broken)
+    twice = count_repeats(card for card, *_ in whole)
     missing = {'%s: %s' % (kind, why) for kind in CAUSES for why in CAUSES[kind]} | {'line: sound', 'plane: sound'} | set(CASES)
-    missing = missing - set(seen) | {why for why in nothing if not nothing[why]}
+    missing = missing - set(seen) | {why for why in nothing if not nothing[why]} | {case for case in twice if not twice[case]}
     if missing or not whole or not broken:
         sys.exit('compare_cards: did not occur: ' + '; '.join(sorted(missing) or ['a card']))
     asked = sum(len(products) for _, products, _ in whole + broken)
@@ -516,8 +637,8 @@ def show(seed, sounds, bases):
         by_number[short] = by_number.get(short, 0) + seen[key]
     found = ', '.join('%s %d times' % (key, by_number[key]) for key in sorted(by_number, key=lambda key: (key.split()[0], len(key), key)))
     why = ' and '.join('%d for %s' % (nothing[why], why) for why in nothing)
-    print('compare_cards: seed %d: %d sound and %d damaged cards, %d queries, 0 shown by %s, %d cases of plane cards, no difference (by number %s)'
-          % (seed, len(whole), len(broken), asked, why, len(CASES), found))
+    print('compare_cards: seed %d: %d sound and %d damaged cards, %d queries, 0 shown by %s, %d cases of plane cards, %d of repeated points, no difference '
+          '(by number %s)' % (seed, len(whole), len(broken), asked, why, len(CASES), len(twice), found))
 
 
 # ---- the committed file
@@ -525,7 +646,8 @@ def show(seed, sounds, bases):
 
 def committed():
     """Document 01's card product by product, the edges about queries, every cause at every place of a small card, and some drawn cards; then the same of
-    cards of points in the plane: a circle and a line, the least and the longest card, every case of a small card."""
+    cards of points in the plane: a circle and a line, the least and the longest card, every case of a small card; last every case of repeated points. No
+    card stands twice with the same products."""
     rng = random.Random(20261115)
     example = write([[0, 1], [1, 1], [-2, 1]], [-3, 1, 3])
     eight = write([[1]] * 8, [5])
@@ -534,7 +656,7 @@ def committed():
     cards = [(b'', [0]), (b'\1', [0]), (example, list(range(27)) + [27, 65535]), (eight, [6560, 6561]), (largest, [0, 1, 6560, 6561]), (least, [0, 1, 2, 3])]
     cards += [(card, [0, 27]) for card, _ in damaged(rng, example)]
     for i in range(64):
-        cards.append((sound(rng, 1 + i % 8, i), [0, 1, 3 ** (1 + i % 8) - 1, 3 ** (1 + i % 8)]))
+        cards.append((sound(rng, 1 + i % 8, i, WAYS[i % len(WAYS)]), [0, 1, 3 ** (1 + i % 8) - 1, 3 ** (1 + i % 8)]))
     circle = write_plane([{(0, 0): -25, (0, 2): 1, (2, 0): 1}, {(0, 1): -1, (1, 0): 1}], [(-3, 4), (0, 0), (3, 4), (4, 3), (6, 1)])
     largest = write_plane([dict.fromkeys(MONOMIALS[-9:], LARGEST)] * 8, [(FURTHEST, FURTHEST)] * 64)
     most = write_plane([dict.fromkeys([(6 - b, b) for b in range(7)] + [(5, 0), (4, 1)], LARGEST)], [(-FURTHEST, FURTHEST), (FURTHEST, FURTHEST)])
@@ -547,8 +669,9 @@ def committed():
             cards.append((card, [0]))
         seen.add(case)
     for i in range(16):
-        cards.append((sound_plane(rng, 1 + i % 8, 4 * i), [0, 1, 3 ** (1 + i % 8) - 1, 3 ** (1 + i % 8)]))
-    return cards
+        cards.append((sound_plane(rng, 1 + i % 8, 4 * i, WAYS[i % len(WAYS)]), [0, 1, 3 ** (1 + i % 8) - 1, 3 ** (1 + i % 8)]))
+    cards += [(card, [0, 1, 5, 8]) for card in every_repeat()]
+    return [entry for k, entry in enumerate(cards) if entry not in cards[:k]]
 
 
 def store():

@@ -3,11 +3,12 @@
 
 usage: python3 tools/compare_lists.py [SEED|day [CARDS]]    compares; prints one line of counts, exits 1 at a difference
 
-CARDS cards are drawn, of every s and every n in turn, every other one with points in the plane, each third one with a damage of
-tools/compare_cards.py. Each is asked some lists: empty, short and long ones, with products that stand more than once, with a bad product first, in between
-and last, with two, into slices as long as the list, longer and shorter. Of each call the refusal, the position and the whole slice are compared. The
-second reader is that of tools/compare_cards.py: values by powers, a query by the exact product of the values. It needs the archive that
-`rt staticlib tarski` makes, and cc. It fails where a case never occurred on either kind of card.
+CARDS cards are drawn, of every s and every n in turn, every other one with points in the plane, their points repeated in every way in turn, each third one
+with a damage of tools/compare_cards.py; before them come its cards of repeated points. Each is asked some lists: empty, short and long ones, with products
+that stand more than once, with a bad product first, in between and last, with two, into slices as long as the list, longer and shorter. Of each call the
+refusal, the position and the whole slice are compared. The second reader is that of tools/compare_cards.py: values by powers, at the points as a set, each
+once however often it stands on the card, a query by the exact product of the values. It needs the archive that `rt staticlib tarski` makes, and cc. It fails
+where a case, one of repeated points too, never occurred on either kind of card.
 """
 
 import datetime
@@ -40,7 +41,7 @@ def answer(card, products, room):
     if bad:
         case = 'two bad' if len(bad) > 1 else 'first bad' if bad[0] == 0 else 'last bad' if bad[0] == len(products) - 1 else 'middle bad'
         return 13, bad[0], kept, case
-    values = [[compare_cards.value(terms, x, y) for *_, terms in polynomials] for x, y in points]
+    values = compare_cards.values_at(polynomials, points)
     shown = {a: compare_cards.query(values, a)[3] for a in set(products)}
     case = 'empty' if not products else 'repeated' if len(shown) < len(products) else 'written'
     return 0, 0, [shown[a] for a in products] + kept[len(products):], case if room == len(products) else case + ', kept past it'
@@ -83,9 +84,12 @@ def lists(rng, s):
 def draw(seed, cards):
     """The cases: a card, a list and the room."""
     rng = random.Random(seed)
+    for card in compare_cards.every_repeat():
+        for products, room in [(list(range(9)), 9)] + lists(rng, 2):
+            yield card, products, room
     for i in range(cards):
-        s, n = 1 + i // 2 % 8, i // 8 % 65
-        card = (compare_cards.sound_plane if i % 2 else compare_cards.sound)(rng, s, n)
+        s, n, way = 1 + i // 2 % 8, i // 8 % 65, compare_cards.WAYS[i // 2 % len(compare_cards.WAYS)]
+        card = (compare_cards.sound_plane if i % 2 else compare_cards.sound)(rng, s, n, way)
         if i % 3 == 2:
             card = compare_cards.changed(card, rng.choice(compare_cards.causes(card)))
         for products, room in lists(rng, s):
@@ -110,7 +114,7 @@ def main(arguments):
             out.write(b''.join(record(*case) for case in cases))
         ran = subprocess.run([program, path], stdout=subprocess.PIPE, check=False)
     lines = ran.stdout.decode('ascii', 'replace').splitlines()
-    seen = {(kind, case): 0 for kind in ('line', 'plane') for case in CASES}
+    seen, asked = {(kind, case): 0 for kind in ('line', 'plane') for case in CASES}, set()
     for k, (card, products, room) in enumerate(cases):
         refusal, position, left, case = answer(card, products, room)
         must, got = ' '.join(map(str, [refusal, position] + left)), lines[k] if k < len(lines) else 'nothing'
@@ -118,12 +122,16 @@ def main(arguments):
             sys.exit('compare_lists: DIFFERENCE: card %s, products %s, room %d\n  must be: %s\n  is:      %s' % (card.hex(), products, room, must, got))
         kind = compare_cards.kind_of(card)
         seen[kind, case] = seen.get((kind, case), 0) + 1
+        asked.update([card] if not refusal and products else [])
     if ran.returncode or len(lines) != len(cases):
         sys.exit('compare_lists: the program failed: %s' % lines[len(cases):])
-    if not all(seen.values()):
-        sys.exit('compare_lists: did not occur: ' + '; '.join('%s: %s' % key for key in seen if not seen[key]))
-    print('compare_lists: seed %d: %d lists of products on %d cards, no difference (%s)'
-          % (numbers[0], len(cases), numbers[1], '; '.join('%s: %d' % (case, sum(seen[key] for key in seen if key[1] == case)) for case in CASES)))
+    twice = compare_cards.count_repeats(asked)
+    missing = ['%s: %s' % key for key in seen if not seen[key]] + [case for case in twice if not twice[case]]
+    if missing:
+        sys.exit('compare_lists: did not occur: ' + '; '.join(missing))
+    found = '; '.join('%s: %d' % (case, sum(seen[key] for key in seen if key[1] == case)) for case in CASES)
+    print('compare_lists: seed %d: %d lists of products on %d cards, %d cases of repeated points, no difference (%s)'
+          % (numbers[0], len(cases), len(compare_cards.every_repeat()) + numbers[1], len(twice), found))
 
 
 if __name__ == '__main__':

@@ -1,8 +1,9 @@
 #!/usr/bin/env python3
 """Writes data/cards and stdout: cards, sound and damaged, and their printouts, worked out from documents 01 and 02 by another route.
 
-The reader is a second one. A query is the sum of the signs of the product's values, as whole numbers. The rows of a round are the patterns that the
-points have. An adapted list is found as document 000 has it: the first products, in rising order, whose rows of signs are independent.
+The reader is a second one. The points are a set of pairs of X and Y, so that one that stands on the card more than once counts once. A query is the sum of
+the signs of the product's values, as whole numbers. The rows of a round are the patterns that the points have. An adapted list is found as document 000 has
+it: the first products, in rising order, whose rows of signs are independent.
 
 usage: generate.py (in the folder of this file)
 """
@@ -131,7 +132,7 @@ def printout(card):
     except Refused as r:
         return ['R %d' % r.args[0]]
     s = len(polynomials)
-    values = [[sum(c * x ** a * y ** b for (a, b), c in terms.items()) for terms in polynomials] for x, y in points]
+    values = [[sum(c * x ** a * y ** b for (a, b), c in terms.items()) for terms in polynomials] for x, y in set(points)]
     patterns = [sum((0, 1, 2)[sign(v)] * 3 ** j for j, v in enumerate(at)) for at in values]
     products = [0]
     if points:
@@ -208,6 +209,18 @@ def damaged(rng, drawn=sound):
     return bytes(card)
 
 
+def repeated():
+    """Cards on which points stand more than once, and some on which none does, of both kinds: X and X^2 - 4; X - Y and X^2 + Y^2 - 8."""
+    lists = [[2] * 2, [0] * 64, [-2, -2, 0, 3], [-2, 0, 0, 3], [-2, 0, 3, 3], [-2, 0, 2, 3, 4], [-5, -5, -2, -2, 3, 3], [-5, -5, -5, 0, 2, 2, 3, 3, 3, 3]]
+    lists += [[-100, -100, 100, 100], [3, 3, 4, 5], list(range(-32, 32)), [-32] + list(range(-32, 31)), list(range(-32, 31)) + [30]]
+    lists.append(sorted(2 * list(range(-16, 16))))
+    square = [(x, y) for x in range(-4, 4) for y in range(-4, 4)]
+    places = [[(2, v) for v in found] for found in lists] + [[(v, 2) for v in found] for found in lists]
+    places += [square, sorted(2 * square[::2]), [(-2, 2)] * 2 + [(2, -2)] * 3 + [(2, 2)], [(-1, 1), (-1, 2), (-1, 2), (1, -1), (1, -1), (2, -1)]]
+    plane = [[(0, 1, -1), (1, 0, 1)], [(0, 0, -8), (0, 2, 1), (2, 0, 1)]]
+    return [write([[0, 1], [-4, 0, 1]], found) for found in lists] + [write_plane(plane, found) for found in places]
+
+
 def main():
     rng = random.Random(13)
     example = write([[0, 1], [1, 1], [-2, 1]], [-3, 1, 3])
@@ -231,7 +244,7 @@ def main():
     circle = cards[-2]
     for at, byte in ((0, 3), (3, 1), (5, 11), (7, 30), (10, 10), (11, 7), (12, 255), (13, 1), (18, 0), (28, 0), (43, 101), (42, 0), (46, 255), (51, 127)):
         cards.append(circle[:at] + bytes([byte]) + circle[at + 1:])
-    cards += [sound_plane(rng, rng.choice([1, 2, 5, 20, 64])) for _ in range(30)] + [damaged(rng, sound_plane) for _ in range(40)]
+    cards += [sound_plane(rng, rng.choice([1, 2, 5, 20, 64])) for _ in range(30)] + [damaged(rng, sound_plane) for _ in range(40)] + repeated()
     data = b''.join(struct.pack('>H', len(c)) + c for c in cards)
     assert len(data) < LIMIT, len(data)
     with open('data/cards', 'wb') as out:
@@ -240,7 +253,9 @@ def main():
         for c in cards:
             out.write(''.join(line + '\n' for line in printout(c)) + 'X 15 7\n')
     ends = Counter(line if line[0] == 'R' else 'sound' for c in cards for line in printout(c)[-1:])
+    fewer = len([1 for c in cards if printout(c)[0][0] == 'Q' and printout(c)[0] != 'Q 0 %d' % c[2]])
     print(len(cards), 'cards,', len(data), 'bytes:', dict(ends), 'most questions', max(len([1 for l in printout(c) if l[0] == 'Q']) for c in cards))
+    print(fewer, 'cards with fewer points than they name')
 
 
 main()

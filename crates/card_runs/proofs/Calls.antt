@@ -23,7 +23,7 @@ use Rattle.sign_counts.specs.declared.SignCounts.{SignCounts}
 use Rattle.sign_counts.proofs.panel_number.Reads as panel-number
 use Rattle.layout.specs.Format.{polynomials}
 use Rattle.plane.specs.Contents.{contentsOf}
-use Rattle.plane.proofs.Contents.{points-long}
+use Rattle.plane.proofs.Contents.{points-few}
 use Rattle.card.specs.Sound.{Sound}
 use Rattle.card.proofs.Sound.{unrefused}
 use Rattle.query.specs.Query.{queryOf}
@@ -94,11 +94,11 @@ shows-is refusal = refl
 
 module _ (c : List ℕ) (S : Sound c) where
   -- the number shown of a product of a sound card is its query
-  asks-query : (α : ℕ) (y : Shown) → α < 3 ^ polynomials c → Asks c α y → y ≡ number (queryOf c α)
+  pub asks-query : (α : ℕ) (y : Shown) → α < 3 ^ polynomials c → Asks c α y → y ≡ number (queryOf c α)
   asks-query α y b a = shows-is (a .shows) ∙ tells-gives c α (a .told) (a .tells) .by-values .inside S b
 
   held : length (contentsOf c .points) ≤ mostPoints
-  held = omega (arith, points-long c, S .n-most)
+  held = omega (arith, points-few c, S .n-most)
 
   -- THE THEOREM
   pub card-runs : {k : ℕ} {d : Run} {x : Step} → Plays c k d x → EndsDone (contentsOf c) (Asks c) (Fetches d) (Copies d) k x

@@ -65,7 +65,7 @@ module _ {ℓ} {X : Type 0} (K : Contents X) (C : Type 0) (view : C → State) (
   abbrev E : List ℕ
   E = patternsIn K
 
-  O : Oracle s E
+  abbrev O : Oracle s E
   O = oracle K held
 
   abbrev Stood : List ℤ → List ℕ → State → Step → Type 0
@@ -79,7 +79,7 @@ module _ {ℓ} {X : Type 0} (K : Contents X) (C : Type 0) (view : C → State) (
       ap (λ (y : Shown). numberOf y z) (shows α (number z) (waits-below s E least O zs qs r α w) a) ∙ query-patterns K α
 
   -- what the record of such a run stands for
-  stood : {k : ℕ} {d : C} {x : Step} → Played C Starts Answers Asks s k d x
+  pub stood : {k : ℕ} {d : C} {x : Step} → Played C Starts Answers Asks s k d x
       → (zs : List ℤ) × (qs : List ℕ) × (length zs ≡ k) × Stood zs qs (view d) x
   stood (begun {d} {x} u) =
       let (v, e) = kept .starts s d x least most u in
@@ -211,27 +211,27 @@ module _ {ℓ} {X : Type 0} (K : Contents X) (C : Type 0) (view : C → State) (
 -- ---- the rules themselves are such calls, so that there are such runs
 
 module _ {X : Type 0} (K : Contents X) where
-  abbrev RuleStarts : ℕ → State → Step → Type 0
+  abbrev pub RuleStarts : ℕ → State → Step → Type 0
   RuleStarts s r x = (r ≡ startOf s) × (x ≡ ask 0)
 
-  abbrev RuleAnswers : State → ℤ → State → Step → Type 0
+  abbrev pub RuleAnswers : State → ℤ → State → Step → Type 0
   RuleAnswers r z r′ x = (r′ ≡ answerOf roundRows r z .0) × (x ≡ answerOf roundRows r z .1)
 
-  abbrev RuleAsks : ℕ → Shown → Type 0
+  abbrev pub RuleAsks : ℕ → Shown → Type 0
   RuleAsks α y = y ≡ number (queryIn K α)
+
+  pub rules-kept : Keeps State (λ r. r) RuleStarts RuleAnswers (λ r p y. y ≡ fetchOf r p) (λ r a b y. y ≡ copyOf r a b)
+  rules-kept = record {
+    starts = λ s r x h m u. u;
+    answers = λ r z r′ x u. u;
+    fetches = λ r p y u. u;
+    copies = λ r a b y u. u;
+  }
 
   pub rules-done : 1 ≤ K .s → K .s ≤ mostPolynomials → length (K .points) ≤ mostPoints
       → (k : ℕ) × (r : State) × Played State RuleStarts RuleAnswers RuleAsks (K .s) k r done
   rules-done least most held =
-      played-done K State (λ r. r) RuleStarts RuleAnswers (λ r p y. y ≡ fetchOf r p) (λ r a b y. y ≡ copyOf r a b) kept RuleAsks
+      played-done K State (λ r. r) RuleStarts RuleAnswers (λ r p y. y ≡ fetchOf r p) (λ r a b y. y ≡ copyOf r a b) rules-kept RuleAsks
       (λ α y b e. e) least most held
       (startOf (K .s), ask 0, (refl, refl)) (λ k r α p. (number (queryIn K α), refl))
       (λ k r α p z e. (answerOf roundRows r z .0, answerOf roundRows r z .1, (refl, refl)))
-    where
-      kept : Keeps State (λ r. r) RuleStarts RuleAnswers (λ r p y. y ≡ fetchOf r p) (λ r a b y. y ≡ copyOf r a b)
-      kept = record {
-        starts = λ s r x h m u. u;
-        answers = λ r z r′ x u. u;
-        fetches = λ r p y u. u;
-        copies = λ r a b y u. u;
-      }

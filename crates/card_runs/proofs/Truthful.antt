@@ -115,14 +115,14 @@ module _ (s : ℕ) (E : List ℕ) (least : 1 ≤ s) (O : Oracle s E) where
 
   -- ---- a run that waits for an answer
 
-  record Ahead (qs : List ℕ) (α : ℕ) : Type 0 where
-    zs : List ℤ
-    ps : List ℕ
-    end : List Row
-    ends : Determined s zs ps end
-    fits : Fits s E ps zs
-    rest : List ℕ
-    all : ps ≡ qs ++ (α ∷ rest)
+  pub record Ahead (qs : List ℕ) (α : ℕ) : Type 0 where
+    pub zs : List ℤ
+    pub ps : List ℕ
+    pub end : List Row
+    pub ends : Determined s zs ps end
+    pub fits : Fits s E ps zs
+    pub rest : List ℕ
+    pub all : ps ≡ qs ++ (α ∷ rest)
 
   -- from any record that waits, m more answers being more than a run takes
   abbrev Goes : ℕ → Type 0
@@ -166,6 +166,9 @@ module _ (s : ℕ) (E : List ℕ) (least : 1 ≤ s) (O : Oracle s E) where
   module _ (zs : List ℤ) (qs : List ℕ) (r : State) (α : ℕ) (w : Waits zs qs r α) where
     A : Ahead qs α
     A = ahead (2 + 2 * mostPoints * s) zs qs r α w (omega arith)
+
+    pub waits-ahead : Ahead qs α
+    waits-ahead = A
 
     longer : length zs < length (A .ps)
     longer = omega (arith, w .as-many, ap length (A .all), length-append qs (α ∷ A .rest))

@@ -15,3 +15,4 @@ pub mod Examples
 pub mod Halves
 pub mod Ranges
 pub mod Search
+pub mod Same

@@ -6,3 +6,4 @@ pub mod Range
 pub mod Parts
 pub mod Powers
 pub mod Search
+pub mod Same

@@ -28,7 +28,7 @@ upTo-at (suc n) k h =
     List·getD-append (upTo n) (n ∷ []) 0 k (omega (arith, upTo-long n)) ∙ upTo-at n k g) (eq-cases k n)
 
 module _ {A B : Type 0} (f : A → B) where
-  map-at : (l : List A) (k : ℕ) (a : A) (b : B) → k < length l → getD (map f l) k b ≡ f (getD l k a)
+  pub map-at : (l : List A) (k : ℕ) (a : A) (b : B) → k < length l → getD (map f l) k b ≡ f (getD l k a)
   map-at [] k a b h = absurd (omega arith)
   map-at (x ∷ l) zero a b h = refl
   map-at (x ∷ l) (suc k) a b h = map-at l k a b (omega arith)

@@ -4,6 +4,8 @@
 --   bodies  == two bodies, of 0 at byte 0 and of 2·X·Y² − 3·X³ at byte 1
 --   plane   == a card with 2·X·Y² − 3·X³ at (−2, 5), (5, −2)
 --   line    == a card with X − 2 at −3
+--   again   == a card with X at −1, 0, 0, 0, 1 and 1
+--   twice   == a card with X and Y at (2, 1), (2, 1), (2, 3) and (4, 3)
 use mathlib.Core.Path.{_≡_, refl}
 use mathlib.Core.List.{List, [], _∷_}
 use mathlib.Core.Logic.{inl, inr}
@@ -14,12 +16,13 @@ use Rattle.integers.proofs.Parts.{int}
 use Rattle.integers.specs.Sums.{sumTo}
 use Rattle.integers.specs.Powers.{power}
 use Rattle.signs.specs.Lists.{upTo}
+use Rattle.contents.specs.Distinct.{without, distinct}
 use Rattle.layout.specs.Format.{two's, offset, word}
 use Rattle.layout.specs.Values.{value}
 use Rattle.plane.specs.Format.{Point, xPower, yPower, termCoefficient}
 use Rattle.plane.specs.Body.{Before, PlaneBody}
 use Rattle.plane.specs.Values.{planeValue}
-use Rattle.plane.specs.Contents.{valueAt, cardPoint, contentsOf}
+use Rattle.plane.specs.Contents.{valueAt, cardPoint, samePoint, contentsOf}
 
 abbrev largest : List ℕ
 largest =
@@ -37,6 +40,14 @@ plane =
 
 abbrev line : List ℕ
 line = 1 ∷ 1 ∷ 1 ∷ 0 ∷ 0 ∷ 8 ∷ 0 ∷ 17 ∷ 1 ∷ 255 ∷ 255 ∷ 255 ∷ 254 ∷ 0 ∷ 0 ∷ 0 ∷ 1 ∷ 253 ∷ []
+
+abbrev pub again : List ℕ
+again = 1 ∷ 1 ∷ 6 ∷ 0 ∷ 0 ∷ 8 ∷ 0 ∷ 17 ∷ 1 ∷ 0 ∷ 0 ∷ 0 ∷ 0 ∷ 0 ∷ 0 ∷ 0 ∷ 1 ∷ 255 ∷ 0 ∷ 0 ∷ 0 ∷ 1 ∷ 1 ∷ []
+
+abbrev pub twice : List ℕ
+twice =
+    2 ∷ 2 ∷ 4 ∷ 0 ∷ 0 ∷ 10 ∷ 0 ∷ 17 ∷ 0 ∷ 24 ∷ 1 ∷ 1 ∷ 0 ∷ 0 ∷ 0 ∷ 0 ∷ 1 ∷ 1 ∷ 0 ∷ 1 ∷ 0 ∷ 0 ∷ 0 ∷ 1
+    ∷ 2 ∷ 1 ∷ 2 ∷ 1 ∷ 2 ∷ 3 ∷ 4 ∷ 3 ∷ []
 
 -- ---- values
 
@@ -124,7 +135,7 @@ largest-sound = record {
 -- ---- cards
 
 plane-points : contentsOf plane .points ≡ ((negsuc 1, pos 5) ∷ (pos 5, negsuc 1) ∷ [])
-unfolding upTo cardPoint offset two's
+unfolding upTo cardPoint offset two's distinct without samePoint
 plane-points = refl
 
 plane-values : (contentsOf plane .value 0 (negsuc 1, pos 5) ≡ negsuc 75) × (contentsOf plane .value 0 (pos 5, negsuc 1) ≡ negsuc 334)
@@ -133,9 +144,18 @@ plane-values = (refl, refl)
 
 -- a point of the line is on the X axis, and a polynomial in X does not see Y
 line-points : contentsOf line .points ≡ ((negsuc 2, pos 0) ∷ [])
-unfolding upTo cardPoint offset two's
+unfolding upTo cardPoint offset two's distinct without
 line-points = refl
 
 line-values : (contentsOf line .value 0 (negsuc 2, pos 0) ≡ negsuc 4) × (contentsOf line .value 0 (negsuc 2, pos 7) ≡ negsuc 4)
 unfolding valueAt value sumTo power offset two's word
 line-values = (refl, refl)
+
+-- a point that stands two or three times on a card is one of its points once, beside others with its X
+again-points : contentsOf again .points ≡ ((negsuc 0, pos 0) ∷ (pos 0, pos 0) ∷ (pos 1, pos 0) ∷ [])
+unfolding upTo cardPoint offset two's distinct without samePoint
+again-points = refl
+
+twice-points : contentsOf twice .points ≡ ((pos 2, pos 1) ∷ (pos 2, pos 3) ∷ (pos 4, pos 3) ∷ [])
+unfolding upTo cardPoint offset two's distinct without samePoint
+twice-points = refl

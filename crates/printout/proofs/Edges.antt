@@ -1,4 +1,5 @@
--- Document 01's printed card, a card of points in the plane, a card without points and a refused card, by computing the definitions.
+-- Document 01's printed card, a card of points in the plane, one that names points twice, a card without points and a refused card, by
+-- computing the definitions.
 --
 --   example == the card of document 01, "One card through": P1 = X, P2 = X + 1, P3 = X − 2 at −3, 1, 3
 --   empty   == one polynomial, X, and no points
@@ -14,10 +15,12 @@ use Rattle.signs.specs.Adapted.{adapted, restrictions, signsOf}
 use Rattle.integers.specs.Powers.{power}
 use Rattle.signs.specs.Signs.{signDigit}
 use Rattle.contents.specs.Contents.{productTo, queryIn, patternTo, patternsIn}
+use Rattle.contents.specs.Distinct.{without, distinct}
 use Rattle.layout.specs.Format.{two's, offset, word}
 use Rattle.layout.specs.Values.{value}
 use Rattle.plane.specs.Values.{planeValue}
-use Rattle.plane.specs.Contents.{valueAt, cardPoint}
+use Rattle.plane.specs.Contents.{valueAt, cardPoint, samePoint}
+use Rattle.plane.proofs.Examples.{twice}
 use Rattle.plane_checks.specs.Checks.{planeRefusal, planePointsRefusal}
 use Rattle.integers.specs.Search.{anyBelow}
 use Rattle.card.specs.Card.{contentsRefusal, headerRefusal, polynomialRefusal, coefficientsRefusal, bodiesRefusal, pointsRefusal}
@@ -53,7 +56,7 @@ refused-text = refl
 empty-text : printoutOf empty ≡ (81 ∷ 32 ∷ 48 ∷ 32 ∷ 48 ∷ 10 ∷ 69 ∷ 32 ∷ 49 ∷ 10 ∷ [])
 unfolding printoutOf together linesOf soundLines questionLines rowLines questions refusal headerRefusal contentsRefusal bodiesRefusal
     polynomialRefusal coefficientsRefusal pointsRefusal anyBelow offset two's word
-    questionLine endLine decimal decimalTo signed queryIn patternsIn upTo sumℤ realized rowsOf rowIf times
+    questionLine endLine decimal decimalTo signed queryIn patternsIn upTo sumℤ realized rowsOf rowIf times distinct
 empty-text = refl
 
 -- the 15 lines
@@ -63,7 +66,7 @@ example-lines : linesOf example ≡
     ∷ questionLine 19 (pos 1) ∷ rowLine 13 1 ∷ rowLine 22 1 ∷ rowLine 26 1 ∷ endLine 11 ∷ [])
 unfolding linesOf soundLines questionLines rowLines questions roundsTo restrict refusal headerRefusal contentsRefusal bodiesRefusal
     polynomialRefusal coefficientsRefusal pointsRefusal anyBelow offset two's word
-    queryIn productTo patternsIn patternTo value valueAt cardPoint signDigit power upTo sumℤ sumTo
+    queryIn productTo patternsIn patternTo value valueAt cardPoint signDigit power upTo sumℤ sumTo distinct without samePoint
     realized rowsOf rowIf times patterns roundOf adapted restrictions signsOf keep shift
 example-lines = refl
 
@@ -74,9 +77,19 @@ circle-lines : linesOf circle ≡
     ∷ rowLine 2 1 ∷ rowLine 3 1 ∷ rowLine 4 1 ∷ rowLine 6 2 ∷ endLine 9 ∷ [])
 unfolding linesOf soundLines questionLines rowLines questions roundsTo restrict refusal headerRefusal contentsRefusal bodiesRefusal
     planeRefusal planePointsRefusal anyBelow offset two's word
-    queryIn productTo patternsIn patternTo planeValue valueAt cardPoint signDigit power upTo sumℤ sumTo
+    queryIn productTo patternsIn patternTo planeValue valueAt cardPoint signDigit power upTo sumℤ sumTo distinct without samePoint
     realized rowsOf rowIf times patterns roundOf adapted restrictions signsOf keep shift
 circle-lines = refl
+
+-- those of X and Y at (2, 1), (2, 1), (2, 3) and (4, 3): (2, 1) counts once, and the three points have one pattern and count three times
+twice-lines : linesOf twice ≡
+    (questionLine 0 (pos 3) ∷ questionLine 1 (pos 3) ∷ questionLine 2 (pos 3) ∷ questionLine 3 (pos 3) ∷ questionLine 6 (pos 3)
+    ∷ rowLine 4 3 ∷ endLine 5 ∷ [])
+unfolding linesOf soundLines questionLines rowLines questions roundsTo restrict refusal headerRefusal contentsRefusal bodiesRefusal
+    planeRefusal planePointsRefusal anyBelow offset two's word
+    queryIn productTo patternsIn patternTo planeValue valueAt cardPoint signDigit power upTo sumℤ sumTo distinct without samePoint
+    realized rowsOf rowIf times patterns roundOf adapted restrictions signsOf keep shift
+twice-lines = refl
 
 -- `Q 9 -1`
 minus-line : questionLine 9 (negsuc 0) ≡ (81 ∷ 32 ∷ 57 ∷ 32 ∷ 45 ∷ 49 ∷ 10 ∷ [])

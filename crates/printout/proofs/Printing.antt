@@ -15,7 +15,7 @@ use Rattle.contents.proofs.Patterns.{query-patterns}
 use Rattle.contents.proofs.Counts.{counts-panel}
 use Rattle.layout.specs.Format.{polynomials}
 use Rattle.plane.specs.Contents.{contentsOf}
-use Rattle.plane.proofs.Contents.{points-long}
+use Rattle.plane.proofs.Contents.{points-few}
 use Rattle.card.specs.Card.{refusal}
 use Rattle.refusals.specs.Limits.{mostPoints, mostQuestions}
 use Rattle.refusals.specs.Numbers.{unless}
@@ -152,7 +152,7 @@ module _ (c : List ℕ) (S : Sound c) where
   E = patternsOf c
 
   holds : Oracle s E
-  holds = oracle (contentsOf c) (omega (arith, points-long c, S .n-most))
+  holds = oracle (contentsOf c) (omega (arith, points-few c, S .n-most))
 
   -- the lines after the questions
   abbrev tail : List (List ℕ)
@@ -340,7 +340,7 @@ sound-lines c S = rw (unrefused c S) refl
 module _ (c : List ℕ) (S : Sound c) where
   pub card-done : (k : ℕ) → enough (polynomials c) ≤ k
       → (runOn (contentsOf c) k .phase ≡ finished) × (runOn (contentsOf c) k .rows ≡ realized (polynomials c) (patternsOf c))
-  card-done = contents-done (contentsOf c) (S .s-least) (omega (arith, points-long c, S .n-most))
+  card-done = contents-done (contentsOf c) (S .s-least) (omega (arith, points-few c, S .n-most))
 
   pub card-rows : IsRealized (patternsOf c) (realized (polynomials c) (patternsOf c))
   card-rows = contents-rows (contentsOf c)

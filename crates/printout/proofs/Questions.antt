@@ -48,7 +48,7 @@ rounds-none s =
     (determined-empty s)
     (unfold Fits query in (refl, tt))
 
-questions-are : (s : ℕ) (E : List ℕ) → 0 ∷ roundsTo s E ≡ questions s E
+pub questions-are : (s : ℕ) (E : List ℕ) → 0 ∷ roundsTo s E ≡ questions s E
 unfolding questions
 questions-are s [] = sym (rounds-none s)
 questions-are s (σ ∷ E) = refl

@@ -18,10 +18,12 @@ use Rattle.signs.specs.Signs.{signDigit}
 use Rattle.sign_counts.specs.Counts.{signCounts}
 use Rattle.contents.specs.Contents.{productTo, patternTo, patternsIn}
 use Rattle.contents.specs.Counts.{countsIn}
+use Rattle.contents.specs.Distinct.{without, distinct}
 use Rattle.layout.specs.Format.{two's, offset, word}
 use Rattle.layout.specs.Values.{value}
 use Rattle.plane.specs.Values.{planeValue}
-use Rattle.plane.specs.Contents.{valueAt, cardPoint}
+use Rattle.plane.specs.Contents.{valueAt, cardPoint, samePoint}
+use Rattle.plane.proofs.Examples.{again, twice}
 use Rattle.plane_checks.specs.Checks.{planeRefusal, planePointsRefusal}
 use Rattle.integers.specs.Search.{anyBelow}
 use Rattle.card.specs.Card.{contentsRefusal, headerRefusal, polynomialRefusal, coefficientsRefusal, bodiesRefusal, pointsRefusal}
@@ -78,13 +80,18 @@ pub record QueryEdges : Type 0 where
   pub plane-patterns : patternsOf circle ≡ 6 ∷ 2 ∷ 6 ∷ 3 ∷ 4 ∷ []
   pub in-plane : map (queryAnswer circle) (0 ∷ 1 ∷ 3 ∷ 7 ∷ 9 ∷ [])
       ≡ tells 5 0 0 ∷ tells 1 1 3 ∷ tells 2 2 1 ∷ tells 1 0 4 ∷ of-query.Refused 13 ∷ []
+  -- X at −1, 0, 0, 0, 1 and 1, and X and Y at (2, 1), (2, 1), (2, 3) and (4, 3): a point that stands two or three times counts once
+  -- (document 02, wish 7), and others with its X, or with its pattern, for themselves
+  pub once : map (queryAnswer again) (0 ∷ 1 ∷ 2 ∷ []) ≡ tells 3 0 0 ∷ tells 1 1 1 ∷ tells 2 0 1 ∷ []
+  pub plane-once : map (queryAnswer twice) (0 ∷ 1 ∷ 3 ∷ []) ≡ tells 3 0 0 ∷ tells 3 0 0 ∷ tells 3 0 0 ∷ []
+  pub one-pattern : patternsOf twice ≡ 4 ∷ 4 ∷ 4 ∷ []
   -- a card cut short is refused before the product
   pub card-first : queryAnswer (take 41 example) 27 ≡ of-query.Refused 1
 
 pub query-edges : QueryEdges
 unfolding queryAnswer countsIn signCounts times productTo patternsIn patternTo upTo sumTo power value planeValue valueAt cardPoint signDigit
     offset two's word planeRefusal planePointsRefusal refusal headerRefusal contentsRefusal bodiesRefusal polynomialRefusal
-    coefficientsRefusal pointsRefusal anyBelow
+    coefficientsRefusal pointsRefusal anyBelow distinct without samePoint
 query-edges =
     record {
       printed = refl;
@@ -96,5 +103,8 @@ query-edges =
       both-signs = refl;
       plane-patterns = refl;
       in-plane = refl;
+      once = refl;
+      plane-once = refl;
+      one-pattern = refl;
       card-first = refl;
     }

@@ -28,7 +28,7 @@ use Rattle.contents.proofs.Counts.{counts-patterns}
 use Rattle.layout.specs.Format.{polynomials, pointCount}
 use Rattle.plane.specs.Contents.{contentsOf}
 use Rattle.layout.proofs.Contents.{upTo-long, map-upTo-at}
-use Rattle.plane.proofs.Contents.{points-long}
+use Rattle.plane.proofs.Contents.{points-few}
 use Rattle.layout.proofs.Twos.{below-or}
 use Rattle.card.specs.Card.{refusal}
 use Rattle.card.specs.Answers.{reading}
@@ -250,7 +250,7 @@ module _ (c : List ℕ) (α : ℕ) where
   unfolding queryAnswer
   answer-sound h =
       let K = contentsOf c in
-      let u = limits (polynomials c) (length (K .points)) (h .s-least) (h .s-most) (omega (arith, points-long c, h .n-most)) in
+      let u = limits (polynomials c) (length (K .points)) (h .s-least) (h .s-most) (omega (arith, points-few c, h .n-most)) in
       let e = unrefused c h in
       ⊎-elim (λ b. rw (e, lt-leb (3 ^ polynomials c) α b)
       (sym (answer-counts (openedSound K) α refl u b) ∙ ap of-query.Counts (counts-are K (h .s-most) α)))

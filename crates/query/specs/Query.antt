@@ -1,9 +1,9 @@
--- The Tarski query of a product on a card (document 000, section 3.2; document 01, "Patterns and products"): that of the card's contents.
+-- The Tarski query of a product on a card (document 000, section 3.2; document 01, "Patterns and products"): that of the card's contents,
+-- which have each point once (document 02, wish 7).
 --
---   queryOf c α     == the query of the product α on the card c: the sum over its points of the sign of the product's value, a point
---                      counted as often as it stands on the card
---   countsOf c α    == at how many of its points, so counted, that value is positive, at how many negative and at how many 0
---   patternsOf c    == the patterns of the card's points, in the card's order
+--   queryOf c α     == the query of the product α on the card c: the sum over its distinct points of the sign of the product's value
+--   countsOf c α    == at how many of its distinct points that value is positive, at how many negative and at how many 0
+--   patternsOf c    == the patterns of the card's distinct points, in the card's order
 --   queryAnswer c α == what is shown: the number that refuses the card, then that of the product, else the three counts
 use mathlib.Core.List.{List}
 use Prim.Native.Nat.{ℕ, _^_}

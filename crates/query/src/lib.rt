@@ -1,5 +1,5 @@
-// Tarski queries on a card (document 01, "Patterns and products"; document 02, wish 4): at how many of the card's points a product is positive, negative
-// and 0. The number that the panel shows is the first less the second (`sign_counts::panel_number`).
+// Tarski queries on a card (document 01, "Patterns and products"; document 02, wishes 4 and 7): at how many of the card's points, each counted once, a
+// product is positive, negative and 0. The number that the panel shows is the first less the second (`sign_counts::panel_number`).
 //
 // A card is opened once, and then answers any number of products with no polynomial evaluated again. `open`, `ask` and `query` have no condition: any
 // bytes, any product number and any opened card have an answer, and what is lent stays as it was. `refused` and `count` are the two parts of `ask`, for
@@ -14,9 +14,11 @@ ghost use Rattle.refusals.specs.Limits.{mostPolynomials, mostPoints};
 ghost use Rattle.layout.specs.Format.{polynomials, pointCount, pointsAt};
 ghost use Rattle.plane.specs.Contents.{contentsOf};
 ghost use Rattle.card.specs.Sound.{Sound};
+ghost use Rattle.card_points.specs.Places.{Placed};
 ghost use Rattle.query.specs.Opened.{signWord, openedSound, opened, countsOn, ownRefusal, openedAnswer};
 ghost use Rattle.query.specs.Query.{queryAnswer};
 use card::Card;
+use layout::wide;
 use refusals::MOST_POINTS;
 use refusals::MOST_POLYNOMIALS;
 use refusals::NONE;
@@ -37,8 +39,9 @@ pub enum Queried {
     Refused(u16),
 }
 
-// An opened card: the number that refuses it, or 0, its s polynomials and n points, and their signs there: in `positive[j]` bit k is set where P(j+1) is
-// positive at point k, in `negative[j]` where it is negative. Where both are set it is taken for negative; bits past the first n count for nothing.
+// An opened card: the number that refuses it, or 0, its s polynomials and n distinct points, and their signs there: in `positive[j]` bit k is set where
+// P(j+1) is positive at point k, in `negative[j]` where it is negative. Where both are set it is taken for negative; bits past the first n count for
+// nothing.
 #[repr(C)]
 pub struct Opened {
     pub refusal: u16,
@@ -54,9 +57,9 @@ struct Signs {
     negative: u64,
 }
 
-// The signs of polynomial j at the n points, which begin at byte from, the last point first.
-fn mark(card: &[u8], j: usize, from: usize, n: usize) -> Signs
-    requires { ⌜ Sound (now card) × (j < polynomials (now card)) × (from ≡ pointsAt (now card)) × (n ≡ pointCount (now card)) ⌝ }
+// The signs of polynomial j at the n distinct points, the last one first; `at` begins with their places among the points, which begin at byte from.
+fn mark(card: &[u8], j: usize, from: usize, at: &[u8; MOST_POINTS], n: usize) -> Signs
+    requires { ⌜ Sound (now card) × (j < polynomials (now card)) × (from ≡ pointsAt (now card)) × Placed (now card) (now at) n ⌝ }
     ensures { λ r. ⌜ (r .positive ≡ signWord (contentsOf (now (card .entry))) 1 j) × (r .negative ≡ signWord (contentsOf (now (card .entry))) 2 j) ⌝ }
 {
     let p = card_signs::coefficients(card, j);
@@ -65,7 +68,7 @@ fn mark(card: &[u8], j: usize, from: usize, n: usize) -> Signs
     let mut k = n;
     while 0 < k {
         k -= 1;
-        let d = card_signs::sign(card, j, &p, from, k);
+        let d = card_signs::sign(card, j, &p, from, wide(at[k]));
         positive = 2 * positive + signs::bit(d, 1) as u64;
         negative = 2 * negative + signs::bit(d, 2) as u64;
     }
@@ -75,17 +78,20 @@ fn mark(card: &[u8], j: usize, from: usize, n: usize) -> Signs
     }
 }
 
-// A sound card of s polynomials and n points, opened.
+// A sound card of s polynomials and n points, opened: each distinct point once.
 fn open_sound(card: &[u8], s: usize, n: usize) -> Opened
     requires { ⌜ Sound (now card) × (s ≡ polynomials (now card)) × (n ≡ pointCount (now card)) ⌝ }
     ensures { λ r. ⌜ r ≡ openedSound (contentsOf (now (card .entry))) ⌝ }
 {
     let from = layout::offset(card, s);
+    let places = card_points::distinct_points(card, from, n);
+    let at = places.at;
+    let count = places.n;
     let mut positive = [0u64; MOST_POLYNOMIALS];
     let mut negative = [0u64; MOST_POLYNOMIALS];
     let mut j = 0;
     while j < s {
-        let marked = mark(card, j, from, n);
+        let marked = mark(card, j, from, &at, count);
         positive[j] = marked.positive;
         negative[j] = marked.negative;
         j += 1;
@@ -93,13 +99,13 @@ fn open_sound(card: &[u8], s: usize, n: usize) -> Opened
     Opened {
         refusal: NONE,
         s,
-        n,
+        n: count,
         positive,
         negative,
     }
 }
 
-// Opens a card: checks it and works out the signs of its polynomials at its points, once. A refused card has its number, no polynomials and no
+// Opens a card: checks it and works out the signs of its polynomials at its distinct points, once. A refused card has its number, no polynomials and no
 // points.
 pub fn open(card: &[u8]) -> Opened
     ensures { λ r. ⌜ r ≡ opened (now (card .entry)) ⌝ }

@@ -9,9 +9,10 @@ use Rattle.integers.specs.Sums.{sumℤ, sumTo}
 use Rattle.integers.specs.Powers.{power}
 use Rattle.signs.specs.Lists.{upTo}
 use Rattle.contents.specs.Contents.{queryIn, productTo}
+use Rattle.contents.specs.Distinct.{without, distinct}
 use Rattle.layout.specs.Format.{two's, offset, word}
 use Rattle.layout.specs.Values.{value}
-use Rattle.plane.specs.Contents.{valueAt, cardPoint}
+use Rattle.plane.specs.Contents.{valueAt, cardPoint, samePoint}
 use Rattle.integers.specs.Search.{anyBelow}
 use Rattle.card.specs.Card.{contentsRefusal, headerRefusal, polynomialRefusal, coefficientsRefusal, bodiesRefusal, pointsRefusal}
 use Rattle.card.specs.Card.{refusal}
@@ -40,6 +41,7 @@ pub record ListEdges : Type 0 where
 
 pub list-edges : ListEdges
 unfolding listing firstBad queryIn sumℤ sumTo upTo productTo power value valueAt cardPoint offset two's word
+    distinct without samePoint
     refusal headerRefusal contentsRefusal bodiesRefusal polynomialRefusal coefficientsRefusal pointsRefusal anyBelow
 list-edges = record {
   in-order = refl;

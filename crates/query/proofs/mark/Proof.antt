@@ -1,16 +1,16 @@
--- `query::mark` meets its contract: the words hold the bits of the points from k on.
+-- `query::mark` meets its contract: the words hold the bits of the distinct points from k on.
 use mathlib.Core.Path.{_≡_, sym, ap, _∙_}
 use mathlib.Core.List.{List}
 use Prim.Native.Nat.{ℕ, _+_, _*_, _-_, _^_, _≤_, _<_}
 use native.Mathlib.Omega.{arith}
 use borrow.Author.Needs.{needs}
-use lib.ListN.{length, drop, length-map}
-use Rattle.refusals.specs.Limits.{mostPoints}
+use lib.ListN.{length, getD, drop, length-map}
 use Rattle.signs.specs.Signs.{signDigit}
 use Rattle.signs.specs.Bits.{bitOf}
-use Rattle.layout.specs.Format.{pointCount}
 use Rattle.plane.specs.Contents.{cardPoint, contentsOf}
-use Rattle.plane.proofs.Contents.{points-long, map-point-at}
+use Rattle.card.specs.Sound.{Sound}
+use Rattle.card_points.specs.Places.{Placed}
+use Rattle.card_points.proofs.Distinct.{placed-many, placed-few, placed-there, placed-at}
 use Rattle.query.specs.Opened.{wordOf, pointBits}
 use Rattle.query.proofs.Words.{word-none, word-turn, word-room}
 use Rattle.query.proofs.Opening.{bits-small}
@@ -21,26 +21,27 @@ abbrev bits : List ℕ → ℕ → ℕ → List ℕ
 bits c d j = pointBits (contentsOf c) d j
 
 abbrev Inv-loop : tie.InvT-loop
-Inv-loop card j from n p positive₀ negative₀ k₀ positive negative k =
+Inv-loop card j from at n p positive₀ negative₀ k₀ positive negative k =
     (k ≤ n) × (positive ≡ wordOf (drop k (bits card 1 j))) × (negative ≡ wordOf (drop k (bits card 2 j)))
 
 abbrev μ-loop : tie.MeasureT-loop
-μ-loop card j from n p positive₀ negative₀ k₀ positive negative k = k
+μ-loop card j from at n p positive₀ negative₀ k₀ positive negative k = k
 
-bits-long : (c : List ℕ) (d j : ℕ) → length (bits c d j) ≡ pointCount c
-bits-long c d j = length-map (contentsOf c .points) _ ∙ points-long c
+module _ (c : List ℕ) (S : Sound c) (at : List ℕ) (n : ℕ) (P : Placed c at n) where
+  bits-long : (d j : ℕ) → length (bits c d j) ≡ n
+  bits-long d j = length-map (contentsOf c .points) _ ∙ sym (placed-many c S at n P)
 
--- one turn: the bit of point k − 1, by the digit t of the sign there, for which there is room
-module _ (c : List ℕ) (d j k x : ℕ) (h : 0 < k) (e : x ≡ wordOf (drop k (bits c d j))) where
-  turned : (t b : ℕ) → k ≤ pointCount c → b ≡ bitOf t d → t ≡ signDigit (contentsOf c .value j (cardPoint c (k - 1)))
-      → 2 * x + b ≡ wordOf (drop (k - 1) (bits c d j))
-  turned t b g eb et =
-      word-turn (bits c d j) k x b h (omega (arith, bits-long c d j))
-      (eb ∙ ap (λ (y : ℕ). bitOf y d) et
-      ∙ sym (map-point-at c (λ y. bitOf (signDigit (contentsOf c .value j y)) d) (k - 1) 0 (omega arith))) e
+  -- one turn: the bit of point k − 1, by the digit t of the sign there, for which there is room
+  module _ (d j k x : ℕ) (h : 0 < k) (e : x ≡ wordOf (drop k (bits c d j))) where
+    turned : (t b : ℕ) → k ≤ n → b ≡ bitOf t d → t ≡ signDigit (contentsOf c .value j (cardPoint c (getD at (k - 1) 0)))
+        → 2 * x + b ≡ wordOf (drop (k - 1) (bits c d j))
+    turned t b g eb et =
+        word-turn (bits c d j) k x b h (omega (arith, bits-long d j))
+        (eb ∙ ap (λ (y : ℕ). bitOf y d) et
+        ∙ sym (placed-at c S at n P (λ y. bitOf (signDigit (contentsOf c .value j y)) d) (k - 1) 0 (omega arith))) e
 
-  roomy : pointCount c ≤ mostPoints → 2 * x + 1 < 2 ^ 64
-  roomy g = word-room (bits c d j) (bits-small (contentsOf c) d j) k x h e (omega (arith, bits-long c d j))
+    roomy : 2 * x + 1 < 2 ^ 64
+    roomy = word-room (bits c d j) (bits-small (contentsOf c) d j) k x h e (omega (arith, bits-long d j, placed-few c S at n P))
 
 coefficients-requires : tie.Need-coefficients-requires Inv-loop μ-loop
 coefficients-requires c κs = (c .before .pre .0, c .before .pre .1)
@@ -50,39 +51,56 @@ loop-holds c =
     let s = c .before .before in
     let w = s .args .card .now in
     let j = s .args .j in
-    let n = s .args .n in (
+    let n = s .args .n in
+    let P = s .pre .3 in (
       omega arith,
-      word-none (bits w 1 j) n (omega (arith, bits-long w 1 j, s .pre .3)),
-      word-none (bits w 2 j) n (omega (arith, bits-long w 2 j, s .pre .3)),
+      word-none (bits w 1 j) n (omega (arith, bits-long w (s .pre .0) _ n P 1 j)),
+      word-none (bits w 2 j) n (omega (arith, bits-long w (s .pre .0) _ n P 2 j)),
     )
 
 sub-k : tie.Need-sub-k Inv-loop μ-loop
 sub-k c = search needs
 
+element-copy-out-wide : tie.Need-element-copy-out-wide Inv-loop μ-loop
+element-copy-out-wide c =
+    let s = c .before .before .before .before .before in
+    omega (arith, placed-few _ (s .pre .0) _ (s .args .n) (s .pre .3))
+
+wide-requires : tie.Need-wide-requires Inv-loop μ-loop
+wide-requires c κs = tt
+
 sign-requires : tie.Need-sign-requires Inv-loop μ-loop
 sign-requires c κs =
-    let s = c .before .before .before .before .before in
-    (s .pre .0, s .pre .1, c .before .before .before .coefficients .ensures, s .pre .2, omega arith)
+    let s = c .before .before .before .before .before .before .before in
+    let k = c .before .before .before .before .loop .k in (
+      s .pre .0,
+      s .pre .1,
+      c .before .before .before .before .before .coefficients .ensures,
+      s .pre .2,
+      rw (c .wide .ensures .0) (placed-there _ (s .pre .0) _ (s .args .n) (s .pre .3) (k - 1) (omega arith)),
+    )
 
 -- the digit of the sign at the turn's point, and room for its bit
-record Turn (c : List ℕ) (j k d positive negative : ℕ) : Type 0 where
-  pub digit : d ≡ signDigit (contentsOf c .value j (cardPoint c (k - 1)))
+record Turn (c at : List ℕ) (j k d positive negative : ℕ) : Type 0 where
+  pub digit : d ≡ signDigit (contentsOf c .value j (cardPoint c (getD at (k - 1) 0)))
   pub room : (2 * positive + 1 < 2 ^ 64) × (2 * negative + 1 < 2 ^ 64)
 
 turn : (c : tie.After-sign Inv-loop μ-loop) →
-    let s = c .before .before .before .before .before .before in
-    let l = c .before .before .before .loop in
-    Turn (s .args .card .now) (s .args .j) (l .k) (c .sign .result) (l .positive) (l .negative)
+    let s = c .before .before .before .before .before .before .before .before in
+    let l = c .before .before .before .before .before .loop in
+    Turn (s .args .card .now) (s .args .at .now) (s .args .j) (l .k) (c .sign .result) (l .positive) (l .negative)
 turn c =
-    let s = c .before .before .before .before .before .before in
-    let l = c .before .before .before .loop in
+    let s = c .before .before .before .before .before .before .before .before in
+    let l = c .before .before .before .before .before .loop in
     let h : 0 < l .k = omega arith in
     let w = s .args .card .now in
     let j = s .args .j in
-    let m = s .pre .0 .n-most in
+    let n = s .args .n in
+    let S = s .pre .0 in
+    let P = s .pre .3 in
     record {
-      digit = c .sign .ensures;
-      room = (roomy w 1 j (l .k) _ h (l .inv .1) m, roomy w 2 j (l .k) _ h (l .inv .2) m);
+      digit = c .sign .ensures ∙ ap (λ (k : ℕ). signDigit (contentsOf w .value j (cardPoint w k))) (c .before .wide .ensures .0);
+      room = (roomy w S _ n P 1 j (l .k) _ h (l .inv .1), roomy w S _ n P 2 j (l .k) _ h (l .inv .2));
     }
 
 mul-positive : tie.Need-mul-positive Inv-loop μ-loop
@@ -115,15 +133,18 @@ loop-less c = search needs
 loop-again : tie.Need-loop-again Inv-loop μ-loop
 loop-again c =
     let t = turn (c .before .before) in
-    let l = c .before .before .before .before .before .loop in
-    let s = c .before .before .before .before .before .before .before .before in
+    let l = c .before .before .before .before .before .before .before .loop in
+    let s = c .before .before .before .before .before .before .before .before .before .before in
     let h : 0 < l .k = omega arith in
     let w = s .args .card .now in
     let j = s .args .j in
-    let g : l .k ≤ pointCount w = omega arith in (
+    let n = s .args .n in
+    let S = s .pre .0 in
+    let P = s .pre .3 in
+    let g : l .k ≤ n = omega arith in (
       omega arith,
-      turned w 1 j (l .k) (l .positive) h (l .inv .1) _ _ g (c .before .bit .ensures .0) (t .digit),
-      turned w 2 j (l .k) (l .negative) h (l .inv .2) _ _ g (c .bit2 .ensures .0) (t .digit),
+      turned w S _ n P 1 j (l .k) (l .positive) h (l .inv .1) _ _ g (c .before .bit .ensures .0) (t .digit),
+      turned w S _ n P 2 j (l .k) (l .negative) h (l .inv .2) _ _ g (c .bit2 .ensures .0) (t .digit),
     )
 
 returns : tie.Need-returns Inv-loop μ-loop
@@ -141,6 +162,8 @@ mark-spec =
     coefficients-requires
     loop-holds
     sub-k
+    element-copy-out-wide
+    wide-requires
     sign-requires
     mul-positive
     bit-requires

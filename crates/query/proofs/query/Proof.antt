@@ -5,7 +5,7 @@ use native.Mathlib.Omega.{arith}
 use borrow.Author.Needs.{needs}
 use Rattle.layout.specs.Format.{polynomials}
 use Rattle.plane.specs.Contents.{contentsOf}
-use Rattle.plane.proofs.Contents.{points-long}
+use Rattle.plane.proofs.Contents.{points-few}
 use Rattle.card.proofs.Positions.{Taken, taken}
 use Rattle.query.specs.declared.Opened.{Opened}
 use Rattle.query.specs.declared.Queried.the-variants as Answer
@@ -44,7 +44,7 @@ count-requires c κs =
     let e = c .open-sound .ensures in
     let s = ap (λ (o : Opened). o .s) e in (
       omega (arith, s, t .card .s-most),
-      omega (arith, ap (λ (o : Opened). o .n) e, points-long (a .card .now), t .card .n-most),
+      omega (arith, ap (λ (o : Opened). o .n) e, points-few (a .card .now), t .card .n-most),
       subst (λ (n : ℕ). a .a .0 < 3 ^ n) (t .s-is ∙ sym s) (omega arith),
     )
 

@@ -1,0 +1,4 @@
+pub mod Alike
+pub mod Queries
+pub mod Runs
+pub mod Calls
