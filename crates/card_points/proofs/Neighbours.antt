@@ -26,13 +26,17 @@ twos-one a b f g e = go (below-or a 128) (below-or b 128)
     go (inr x) (inl y) = omega (int, sym (twos-high 128 a x) ∙ e ∙ twos-low 128 b y, dif (pos a) (pos 256))
     go (inr x) (inr y) = omega (int, sym (twos-high 128 a x) ∙ e ∙ twos-high 128 b y, dif (pos a) (pos 256), dif (pos b) (pos 256))
 
--- the test of two numbers, by their bytes
-module _ (a b : ℕ) where
-  bytes-same : b ≡ a → same (two's 128 a) (two's 128 b) ≡ true
-  bytes-same e = rw e (same-self (two's 128 a))
+-- whether the bytes i and j of the card c stand for one number
+abbrev alike : List ℕ → ℕ → ℕ → Bool
+alike c i j = same (two's 128 (byte c i)) (two's 128 (byte c j))
 
-  bytes-other : a < 256 → b < 256 → (b ≡ a → ⊥) → same (two's 128 a) (two's 128 b) ≡ false
-  bytes-other f g n = ⊎-elim (λ t. absurd (n (sym (twos-one a b f g (same-means (two's 128 a) (two's 128 b) t))))) (λ t. t) (bool-cases _)
+module _ (c : List ℕ) (i j : ℕ) where
+  bytes-same : byte c j ≡ byte c i → alike c i j ≡ true
+  bytes-same e = rw e (same-self (two's 128 (byte c i)))
+
+  bytes-other : byte c i < 256 → byte c j < 256 → (byte c j ≡ byte c i → ⊥) → alike c i j ≡ false
+  bytes-other f g n =
+      ⊎-elim (λ t. absurd (n (sym (twos-one (byte c i) (byte c j) f g (same-means _ _ t))))) (λ t. t) (bool-cases (alike c i j))
 
 -- ---- both tests of a point
 
@@ -50,50 +54,44 @@ new c k = cond (repeats c k) 0 1
 
 -- a point after the first: that at place k, whose bytes are compared with those of the point before it
 module _ (c : List ℕ) (from k : ℕ) (e : from ≡ pointsAt c) (some : 0 < k) where
-  before : (P : ℕ → ℕ → Type 0) → P (k - 1) (suc (k - 1)) → P (k - 1) k
-  before P = subst (P (k - 1)) (omega arith)
+  after : (P : ℕ → Type 0) → P (suc (k - 1)) → P k
+  after P = subst P (omega arith)
 
   -- ---- on the line
   module _ (line : byte c 0 ≡ 1) where
-    line-repeats : repeats c k ≡ same (two's 128 (byte c (from + k - 1))) (two's 128 (byte c (from + k)))
+    line-repeats : repeats c k ≡ alike c (from + k - 1) (from + k)
     unfolding repeats samePoint
     line-repeats =
-        before (λ i j. repeats c j ≡ same (two's 128 (byte c (from + k - 1))) (two's 128 (byte c (from + k))))
+        after (λ i. repeats c i ≡ alike c (from + k - 1) (from + k))
         (rw (line-point c line (k - 1), line-point c line (suc (k - 1)), and-true (same (pointOf c (k - 1)) (pointOf c (suc (k - 1)))))
-        (ap₂ (λ (i j : ℕ). same (two's 128 (byte c i)) (two's 128 (byte c j))) (omega arith) (omega arith)))
+        (ap₂ (alike c) (omega arith) (omega arith)))
 
-    pub line-new : byte c (from + k - 1) < 256 → byte c (from + k) < 256 → (byte c (from + k) ≡ byte c (from + k - 1) → ⊥)
-        → 1 ≡ new c k
-    line-new f g n = rw (line-repeats, bytes-other (byte c (from + k - 1)) (byte c (from + k)) f g n) refl
+    pub line-new : byte c (from + k - 1) < 256 → byte c (from + k) < 256 → (byte c (from + k) ≡ byte c (from + k - 1) → ⊥) → 1 ≡ new c k
+    line-new f g n = rw (line-repeats, bytes-other c (from + k - 1) (from + k) f g n) refl
 
     pub line-again : byte c (from + k) ≡ byte c (from + k - 1) → 0 ≡ new c k
-    line-again h = rw (line-repeats, bytes-same (byte c (from + k - 1)) (byte c (from + k)) h) refl
+    line-again h = rw (line-repeats, bytes-same c (from + k - 1) (from + k) h) refl
 
   -- ---- in the plane
   module _ (plane : byte c 0 ≡ 2) where
     abbrev at : ℕ
     at = from + 2 * k
 
-    plane-repeats : repeats c k ≡ same (two's 128 (byte c (at - 2))) (two's 128 (byte c at))
-        && same (two's 128 (byte c (at - 1))) (two's 128 (byte c (at + 1)))
+    plane-repeats : repeats c k ≡ alike c (at - 2) at && alike c (at - 1) (at + 1)
     unfolding repeats samePoint
     plane-repeats =
-        before (λ i j. repeats c j ≡ same (two's 128 (byte c (at - 2))) (two's 128 (byte c at))
-        && same (two's 128 (byte c (at - 1))) (two's 128 (byte c (at + 1))))
+        after (λ i. repeats c i ≡ alike c (at - 2) at && alike c (at - 1) (at + 1))
         (rw (plane-point c plane (k - 1), plane-point c plane (suc (k - 1)))
-        (ap₂ _&&_ (ap₂ (λ (i j : ℕ). same (two's 128 (byte c i)) (two's 128 (byte c j))) (omega arith) (omega arith))
-        (ap₂ (λ (i j : ℕ). same (two's 128 (byte c i)) (two's 128 (byte c j))) (omega arith) (omega arith))))
+        (ap₂ _&&_ (ap₂ (alike c) (omega arith) (omega arith)) (ap₂ (alike c) (omega arith) (omega arith))))
 
     pub plane-new-x : byte c (at - 2) < 256 → byte c at < 256 → (byte c at ≡ byte c (at - 2) → ⊥) → 1 ≡ new c k
-    plane-new-x f g n = rw (plane-repeats, bytes-other (byte c (at - 2)) (byte c at) f g n) refl
+    plane-new-x f g n = rw (plane-repeats, bytes-other c (at - 2) at f g n) refl
 
-    pub plane-new-y : byte c (at - 1) < 256 → byte c (at + 1) < 256 → (byte c (at + 1) ≡ byte c (at - 1) → ⊥)
-        → 1 ≡ new c k
-    plane-new-y f g n = rw (plane-repeats, bytes-other (byte c (at - 1)) (byte c (at + 1)) f g n, and-false) refl
+    pub plane-new-y : byte c (at - 1) < 256 → byte c (at + 1) < 256 → (byte c (at + 1) ≡ byte c (at - 1) → ⊥) → 1 ≡ new c k
+    plane-new-y f g n = rw (plane-repeats, bytes-other c (at - 1) (at + 1) f g n, and-false) refl
 
     pub plane-again : byte c at ≡ byte c (at - 2) → byte c (at + 1) ≡ byte c (at - 1) → 0 ≡ new c k
-    plane-again h i =
-        rw (plane-repeats, bytes-same (byte c (at - 2)) (byte c at) h, bytes-same (byte c (at - 1)) (byte c (at + 1)) i) refl
+    plane-again h i = rw (plane-repeats, bytes-same c (at - 2) at h, bytes-same c (at - 1) (at + 1) i) refl
 
 -- the first point is a new one
 pub first-new : (c : List ℕ) (k : ℕ) → k ≡ 0 → 1 ≡ new c k

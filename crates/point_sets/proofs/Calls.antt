@@ -1,6 +1,7 @@
--- THEOREM of the code (document 02, wish 7): each distinct point of a card counts once in every query, in one call and on an opened card,
--- and a run answered throughout by the card takes the steps that it would take with each point counted as often as it stands. Each call is
--- known by its contract alone (`Learnt`; of a run `Plays`), so that a weaker promise of any of them breaks the theorem.
+-- THEOREM of the code (document 02, wish 7): each distinct point of a card counts once in every query, in one call and on an opened card; a
+-- run answered throughout by the card ends done with the points counted so, and takes the steps that it would take with each point counted
+-- as often as it stands. Each call is known by its contract alone (`Learnt`; of a run `Plays`), so that a weaker promise of any of them
+-- breaks the theorem.
 --
 --   Standing c k r x == a run by the rules with the s of the card c, answered throughout by its queries with each point counted as often as
 --                       it stands: after k answers the record is r and the last step is x
@@ -20,6 +21,7 @@ use Rattle.plane.specs.Contents.{standingOf, contentsOf}
 use Rattle.plane.proofs.Contents.{standing-long, points-once, points-few}
 use Rattle.card.specs.Sound.{Sound}
 use Rattle.card.proofs.Sound.{unrefused}
+use Rattle.query.specs.Claim.{number}
 use Rattle.query.specs.declared.Opened.{Opened}
 use Rattle.query.specs.declared.Queried.{Queried}
 use Rattle.query.proofs.Opening.{opened-sound}
@@ -31,13 +33,13 @@ use Rattle.runs.specs.Run.{State, Step, fetchOf, copyOf}
 use Rattle.determination.specs.declared.Run.{Run}
 use Rattle.determination.specs.Record.{stateOf}
 use Rattle.determination.proofs.Contracts.{Started, Took, Fetches, Copies, kept}
-use Rattle.card_runs.specs.Claim.{Played}
-use Rattle.card_runs.proofs.Runs.{RuleStarts, RuleAnswers, RuleAsks, rules-kept}
+use Rattle.card_runs.specs.Claim.{Played, EndsDone}
+use Rattle.card_runs.proofs.Runs.{ends-done, RuleStarts, RuleAnswers, RuleAsks, rules-kept}
 use Rattle.card_runs.proofs.Calls.{Asks, Plays, asks-query}
 use Rattle.printout.specs.Printout.{questions}
-use Rattle.point_sets.specs.Claim.{Named, CountsOnce, stepAt, Unchanged}
+use Rattle.point_sets.specs.Claim.{Named, on, CountsOnce, stepAt, Unchanged}
 use Rattle.point_sets.proofs.Alike.{alike-rows, alike-questions}
-use Rattle.point_sets.proofs.Queries.{long-same, counts-once}
+use Rattle.point_sets.proofs.Queries.{query-same, long-same, counts-once}
 use Rattle.point_sets.proofs.Runs.{played-questions}
 
 -- ---- queries
@@ -85,6 +87,14 @@ module _ (c : List ℕ) (S : Sound c) where
       played-questions (standingOf c) State (λ r. r) (RuleStarts (standingOf c)) (RuleAnswers (standingOf c)) (λ r p y. y ≡ fetchOf r p)
       (λ r a b y. y ≡ copyOf r a b) (rules-kept (standingOf c)) (RuleAsks (standingOf c)) (λ α y b e. e) (S .s-least) (S .s-most)
       (omega (arith, standing-long c, S .n-most))
+
+  -- THE THEOREM: a run answered by the card ends done, and its rows are the patterns of any list that names each point once, counted
+  pub runs-once : {k : ℕ} {d : Run} {x : Step} → Plays c k d x
+      → (l : List Point) → Named c l → EndsDone (on c l) (Asks c) (Fetches d) (Copies d) k x
+  runs-once p l N =
+      ends-done (on c l) Run stateOf Started Took Fetches Copies kept (Asks c)
+      (λ α y b a. asks-query c S α y b a ∙ ap number (query-same c α l N)) (S .s-least) (S .s-most)
+      (omega (arith, long-same c 0 l N, points-few c, S .n-most)) p
 
   -- THE THEOREM: after as many answers it asks the same product as a run that counts each point as often as it stands, or both are done
   pub same-steps : {k : ℕ} {d : Run} {r : State} {x y : Step} → Plays c k d x → Standing c k r y → x ≡ y

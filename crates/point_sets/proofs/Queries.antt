@@ -22,7 +22,7 @@ use Rattle.point_sets.specs.Claim.{Named, on, Counted, CountsOnce}
 -- ---- the card's own list against any other
 
 module _ (c : List ℕ) (α : ℕ) (l : List Point) (N : Named c l) where
-  query-same : queryIn (contentsOf c) α ≡ queryIn (on c l) α
+  pub query-same : queryIn (contentsOf c) α ≡ queryIn (on c l) α
   query-same = once-query (standingOf c) α (standingOf c .points) (contentsOf c .points) l (points-once c) N
 
   counts-same : countsIn (contentsOf c) α ≡ countsIn (on c l) α
