@@ -1,24 +1,25 @@
--- The table of the counts of marks, and lists written one after the other.
+-- How many signs a mark has, and lists written one after the other.
 use mathlib.Core.Path.{_≡_, refl, sym, _∙_}
 use mathlib.Core.List.{List, [], _∷_, _++_}
 use Prim.Native.Nat.{ℕ, zero, suc, _+_, _≤_, _<_}
 use native.Mathlib.Omega.{arith}
 use native.Mathlib.Nat.{add-zero, add-suc, suc-add, zero-add}
-use lib.ListN.{length, getD, set, take}
+use lib.ListN.{length, set, take}
 use lib.Seq.{sets, sets-eq, take-at}
 use Rattle.adapted.specs.Split.{countOf}
 
-pub counts : (m : ℕ) → m < 8 → getD (0 ∷ 1 ∷ 1 ∷ 2 ∷ 1 ∷ 2 ∷ 2 ∷ 3 ∷ []) m 0 ≡ countOf m
+-- a mark of other signs than none, one or three has two
+pub two-signs : (m : ℕ) → m < 8 → (m ≡ 0 → ⊥) → (m ≡ 1 → ⊥) → (m ≡ 2 → ⊥) → (m ≡ 4 → ⊥) → (m ≡ 7 → ⊥) → countOf m ≡ 2
 unfolding countOf
-counts zero h = refl
-counts (suc zero) h = refl
-counts (suc (suc zero)) h = refl
-counts (suc (suc (suc zero))) h = refl
-counts (suc (suc (suc (suc zero)))) h = refl
-counts (suc (suc (suc (suc (suc zero))))) h = refl
-counts (suc (suc (suc (suc (suc (suc zero)))))) h = refl
-counts (suc (suc (suc (suc (suc (suc (suc zero))))))) h = refl
-counts (suc (suc (suc (suc (suc (suc (suc (suc m)))))))) h = absurd (omega arith)
+two-signs zero h a b c d e = absurd (a refl)
+two-signs (suc zero) h a b c d e = absurd (b refl)
+two-signs (suc (suc zero)) h a b c d e = absurd (c refl)
+two-signs (suc (suc (suc zero))) h a b c d e = refl
+two-signs (suc (suc (suc (suc zero)))) h a b c d e = absurd (d refl)
+two-signs (suc (suc (suc (suc (suc zero))))) h a b c d e = refl
+two-signs (suc (suc (suc (suc (suc (suc zero)))))) h a b c d e = refl
+two-signs (suc (suc (suc (suc (suc (suc (suc zero))))))) h a b c d e = absurd (e refl)
+two-signs (suc (suc (suc (suc (suc (suc (suc (suc m)))))))) h a b c d e = absurd (omega arith)
 
 -- ---- lists written one after the other
 

@@ -101,13 +101,18 @@ pub fn split(l: &[u16], w: u16, low: &mut [u16], mark: &mut [u8], at: &mut [u8])
 }
 
 // How many signs a mark has.
-const COUNTS: [usize; 8] = [0, 1, 1, 2, 1, 2, 2, 3];
-
 pub fn count(m: u8) -> usize
     requires { ⌜ m < 8 ⌝ }
     ensures { λ r. ⌜ r ≡ countOf m ⌝ }
 {
-    COUNTS[m as usize]
+    match m {
+        0 => 0,
+        1 => 1,
+        2 => 1,
+        4 => 1,
+        7 => 3,
+        _ => 2,
+    }
 }
 
 // Writes q to out at n where its mark has at least k signs. Returns where the next one goes.

@@ -2,18 +2,12 @@
 use mathlib.Core.Path.{_≡_, sym, _∙_}
 use lib.ListN.{length, length-map}
 use Rattle.determination.specs.declared.Run.{Run}
-use Rattle.run_parts.specs.declared.Rows.{Rows}
 use Rattle.determination.proofs.Thin.{Data, Good, struct}
 use Rattle.determination.proofs.Run as run-type
 use Rattle.determination.proofs.Run.Laws as run-laws
-use Rattle.run_parts.proofs.Rows as rows-type
-use Rattle.run_parts.proofs.Rows.Laws as rows-laws
 
 abbrev RunD : Data
 RunD = struct run-type.the-type run-laws.the-laws run-laws.the-plain run-laws.the-copy
-
-abbrev RowsD : Data
-RowsD = struct rows-type.the-type rows-laws.the-laws rows-laws.the-plain rows-laws.the-copy
 
 pub record Lengths (r : Run) : Type 0 where
   pub patterns : length (r .patterns) ≡ 64
@@ -29,9 +23,3 @@ lengths r g =
       products = sym (length-map (r .products) (λ v. v)) ∙ g .1 .1 .1 .1 .1 .1 .1 .1 .1 .1 .0 .1 .0 .1;
       answers = sym (length-map (r .answers) (λ v. v)) ∙ g .1 .1 .1 .1 .1 .1 .1 .1 .1 .1 .1 .1 .0 .1 .0 .1;
     }
-
-pub patterns-length : (h : Rows) → Good RowsD h → length (h .patterns) ≡ 64
-patterns-length h g = sym (length-map (h .patterns) (λ v. v)) ∙ g .1 .1 .1 .0 .1 .0 .1
-
-pub counts-length : (h : Rows) → Good RowsD h → length (h .counts) ≡ 64
-counts-length h g = sym (length-map (h .counts) (λ v. v)) ∙ g .1 .1 .1 .1 .0 .1 .0 .1

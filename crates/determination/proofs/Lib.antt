@@ -1,7 +1,9 @@
 pub mod Thin
+pub mod Arrays
+pub mod Fields
 pub mod Pieces
 pub mod LentRead
-pub mod LentWrite
+pub mod LentPass
 pub mod Lent
 pub mod Lengths
 pub mod Records

@@ -1,6 +1,7 @@
 -- The tests of a record: what they say, what passes them, and what the record stands for then.
 use mathlib.Core.Path.{_≡_, refl, sym, ap, _∙_, subst}
 use mathlib.Core.Bool.{Bool, true, false, cond, _&&_}
+use mathlib.Core.List.{List, []}
 use Prim.Native.Nat.{ℕ, _+_, _*_, _-_, _^_, _≤_, _<_}
 use native.Mathlib.Decide.{ℕ-discrete}
 use native.Mathlib.Omega.{arith}
@@ -12,12 +13,14 @@ use Rattle.refusals.specs.Numbers.{late, isAmong, closingNumbers}
 use Rattle.refusals.specs.Limits.{mostPoints, mostPolynomials}
 use Rattle.signs.specs.Lists.{Below, isBelow}
 use Rattle.signs.proofs.Orders.{both-left, both-right, below-from, below-test}
+use Rattle.rounds.specs.Rows.{rowsWith}
 use Rattle.rounds.specs.RoundEnd.{roundRows}
-use Rattle.runs.specs.Run.{State, Phase, running, finished, closed, Step, ask, done, refused, answerOf}
+use Rattle.runs.specs.Run.{State, Phase, running, finished, closed, Step, ask, done, refused, startOf, answerOf}
 use Rattle.runs.proofs.Steps.{answer-finished, answer-closed, not-late}
 use Rattle.run_parts.specs.Parts.{inLimits}
 use Rattle.determination.specs.Record.{runningPhase, donePhase, mostAsked, isSound, isRunning, isDone, stateIn, runningState}
-use Rattle.determination.specs.Record.{runPhase, stateOf, ClosedWhere, AnswerGives}
+use Rattle.determination.specs.Record.{runPhase, runOf, stateOf, ClosedWhere, AnswerGives, startedOf, StartGives}
+use Rattle.determination.specs.declared.Head.{Head}
 use Rattle.determination.specs.declared.Run.{Run}
 
 abbrev place : ℕ → ℕ → ℕ → ℕ → Bool
@@ -144,6 +147,11 @@ pub running-to : (r : Run) → r .phase ≡ runningPhase → isSound r ≡ true 
 unfolding isRunning
 running-to r p e = rw (eq-eqb (r .phase) runningPhase p, e) refl
 
+-- whether a run goes on does not hang on its rows and answers
+pub running-parts : (h : Head) (P C Q : List ℕ) (A : List ℤ) → isRunning (runOf h [] [] Q []) ≡ isRunning (runOf h P C Q A)
+unfolding isRunning isSound
+running-parts h P C Q A = refl
+
 -- the phase gives what the record stands for
 phase-is : (r : Run) (f : Phase) → runPhase r ≡ f → stateOf r ≡ stateIn f r
 unfolding stateOf
@@ -195,6 +203,29 @@ module _ (run : Run) (x : Step) where
       let g : ask α ≡ refused k = sym (ap (λ (o : State × Step). o .1) e) ∙ f in
       let y : _≡_ {A = ℕ} 0 1 = cc in
       absurd (omega arith)
+
+-- ---- what a start promises
+
+module _ (r : Run) (s : ℕ) (g : 1 ≤ s) (h : s ≤ 8) (e₁ : r .polynomials ≡ s) (p : r .phase ≡ runningPhase) (e₂ : r .asked ≡ 0)
+    (e₃ : r .round ≡ 0) (e₄ : r .n ≡ 0) (e₅ : r .rows ≡ 0) (e₆ : r .answered ≡ 0) where
+  -- before the first answer
+  first-state : _≡_ {A = State × Step} (runningState r, ask 0) (startOf s, ask 0)
+  unfolding rowsWith
+  first-state =
+      let a : take (r .rows) (r .patterns) ≡ [] = ap (λ (n : ℕ). take n (r .patterns)) e₅ in
+      let b : take (r .rows) (r .products) ≡ [] = ap (λ (n : ℕ). take n (r .products)) e₅ in
+      let c : take (r .answered) (r .answers) ≡ [] = ap (λ (n : ℕ). take n (r .answers)) e₆ in
+      let d : rowsWith (take (r .rows) (r .patterns)) (take (r .rows) (r .counts)) ≡ [] = rw a refl in
+      cc
+
+  pub first-gives : StartGives s r (ask 0)
+  unfolding startedOf
+  first-gives =
+      record {
+        by-rules =
+            rw (le-leb 1 s g, le-leb s 8 h, running-is r (running-to r p (first-sound r s g h e₁ e₂ e₃ e₄ e₅ e₆))) first-state;
+        closes = λ k e. let x : _≡_ {A = ℕ} 0 1 = cc in absurd (omega arith);
+      }
 
 -- ---- what an answer promises
 

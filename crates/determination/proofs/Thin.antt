@@ -109,7 +109,7 @@ module _ {M : Type 1} {𝓤 : URA M} {H : Heap 𝓤} {A : Atoms 𝓤} {K : Type 
   owned-of t D x is = owned t (D .row) (Is (D .row)) (D .makes 𝓤 H A W) x _ is
 
   -- a share of the cell with what D owns: the machine value is written out, its relation is learned, and what D owns is dropped
-  written : K → (D : Data) (q : Share) (x : D .row .Denot) (vs : List Val) (b o : ℕ)
+  pub written : K → (D : Data) (q : Share) (x : D .row .Denot) (vs : List Val) (b o : ℕ)
       → (Good D x → Seq K W (‵ (cellAt q (D .row .mir) (D .val x ∷ []) b o) ∷ Γ) G)
       → Seq K W (‵ (cellAt q (D .row .mir) vs b o) ∷ ‵ (D .row .own x vs) ∷ Γ) G
   written t D q x vs b o k = spelt t (D .row) (Is (D .row)) (shows 𝓤 H A (D .row)) (λ y. D .val y ∷ []) (D .tells) q x vs b o $

@@ -17,16 +17,18 @@
 --                                  a closed run where it passes neither, whatever it holds
 --   stateOf run                 == what the record stands for, in that phase: its numbers, rows, products and answers as they stand, also
 --                                  where no start and no answer could have left them
---   withAnswer r z, lateOn r    == the round's answers with one more, and what an answer after the end gives
+--   runOf head P C Q A          == the record put together from its numbers, its patterns, counts and products, and its answers
+--   withAnswer r z              == the round's answers with one more
 --   IsClosed run                == the record itself is a closed one: its phase is that of a closed run, and it has no rows and no answers
 --   ClosedWhere run step        == where the step is a refusal the record is a closed one
 --   AnswerGives run a run′ step == what an answer a to the record run promises of the record run′ after it and of the step
 --   startedOf s                 == the record that a start for s polynomials gives, and the step: 3 outside 1 .. 8
 --   StartGives s run step       == what a start for s polynomials promises of the record run and of the step
+--   StartIn run s run′ step     == what a start for s in the lent record run promises of the record run′ after it and of the step
 use mathlib.Core.Path.{_≡_}
 use mathlib.Core.Bool.{Bool, true, cond, _&&_}
 use mathlib.Core.List.{List, [], _∷_, _++_}
-use Prim.Native.Nat.{ℕ, suc, _+_, _*_, _-_, _^_}
+use Prim.Native.Nat.{ℕ, suc, _+_, _*_, _-_, _^_, _≤_}
 use lib.Dec.{eqb, leb}
 use lib.IntN.{ℤ}
 use lib.ListN.{take}
@@ -39,7 +41,7 @@ use Rattle.run_parts.specs.Parts.{inLimits}
 use Rattle.runs.specs.Run.{Step, ask, done, refused, Fetch, row, noRow, Copied, copied, notCopied}
 use Rattle.runs.specs.Run.{State, Phase, running, finished, closed, newIn, startOf, answerOf}
 use Rattle.determination.specs.declared.Run.{Run}
-use Rattle.determination.specs.declared.Answered.{Answered}
+use Rattle.determination.specs.declared.Head.{Head}
 use Rattle.determination.specs.declared.Fetched.{Fetched}
 use Rattle.determination.specs.declared.Step as code-step
 use Rattle.determination.specs.declared.Step.the-variants as steps
@@ -89,13 +91,26 @@ isRunning r = eqb (r .phase) runningPhase && isSound r
 unfoldable pub isDone : Run → Bool
 isDone r = eqb (r .phase) donePhase && leb (r .rows) mostPoints
 
+-- the numbers and the four lists put together
+abbrev pub runOf : Head → List ℕ → List ℕ → List ℕ → List ℤ → Run
+runOf h P C Q A =
+    record {
+      polynomials = h .polynomials;
+      asked = h .asked;
+      phase = h .phase;
+      round = h .round;
+      n = h .n;
+      rows = h .rows;
+      patterns = P;
+      counts = C;
+      products = Q;
+      answered = h .answered;
+      answers = A;
+    }
+
 -- the answers of the round with one more
 abbrev pub withAnswer : Run → ℤ → List ℤ
 withAnswer r z = take (r .answered) (r .answers) ++ (z ∷ [])
-
--- what an answer gives that comes too late
-abbrev pub lateOn : Run → Answered
-lateOn r = record { run = r; step = steps.Refused late }
 
 -- what a record holds in some phases only
 abbrev pub unlessClosed : {A : Type 0} → Phase → List A → List A
@@ -160,3 +175,9 @@ pub record StartGives (s : ℕ) (run : Run) (step : Step) : Type 0 where
   pub by-rules : _≡_ {A = State × Step} (stateOf run, step) (startedOf s)
   -- and the record of a start that is refused is "a closed one"
   pub closes : ClosedWhere run step
+
+pub record StartIn (run : Run) (s : ℕ) (run′ : Run) (step : Step) : Type 0 where
+  -- the record after a start that begins is that of a start, whatever it held
+  pub begins : 1 ≤ s → s ≤ mostPolynomials → StartGives s run′ step
+  -- and where s is refused the record is as it was: "all lent memory; no run begins"
+  pub refuses : ((1 ≤ s) × (s ≤ mostPolynomials) → ⊥) → (step ≡ refused wrongCount) × (run′ ≡ run)

@@ -1,6 +1,6 @@
 -- Decimal text: what `io::decimal` writes is `decimal n`; and what such text is, in other words: its value is n, every byte is a digit, and
 -- it has no leading zero.
-use mathlib.Core.Path.{_≡_, refl}
+use mathlib.Core.Path.{_≡_, refl, ap, _∙_}
 use mathlib.Core.Bool.{true, cond}
 use mathlib.Core.List.{List, [], _∷_, _++_}
 use Prim.Native.Nat.{ℕ, zero, suc, _+_, _*_, _-_, _/_, _%_, _^_, _<_, _≤_}
@@ -18,11 +18,14 @@ use Rattle.lines.specs.Text.{digit, decimalTo, decimal}
 ten-pos : (k : ℕ) → 1 ≤ 10 ^ k
 ten-pos k = one-le-pow k 10 (omega arith)
 
-last-digit : (n : ℕ) → n % 10 < 10
+pub last-digit : (n : ℕ) → n % 10 < 10
 last-digit n = mod-lt n (omega arith)
 
 split : (n : ℕ) → n / 10 * 10 + n % 10 ≡ n
 split n = div-add-mod' n 10
+
+pub tens-less : (n m : ℕ) → n < 10 * m → n / 10 < m
+tens-less n m h = omega (arith, split n)
 
 -- ---- what `io::decimal` writes
 
@@ -53,6 +56,41 @@ digits-decimal n zero (a, b, c) = absurd (omega arith)
 digits-decimal n (suc k) (a, b, c) =
     let e : suc k - 1 ≡ k = omega arith in
     digits-to (suc n) k n b (λ h. rw e at (c (omega arith))) (omega arith)
+
+-- ---- digit by digit
+
+-- any f that is large enough
+to-same : (f g n : ℕ) → n < f → n < g → decimalTo f n ≡ decimalTo g n
+unfolding decimalTo
+to-same zero g n h k = absurd (omega arith)
+to-same (suc f) zero n h k = absurd (omega arith)
+to-same (suc f) (suc g) n h k = go (decLt n 10) (to-same f g (n / 10))
+  where
+    go : Dec (n < 10) → (n / 10 < f → n / 10 < g → decimalTo f (n / 10) ≡ decimalTo g (n / 10))
+        → cond (ltb n 10) (digit n ∷ []) (decimalTo f (n / 10) ++ (digit (n % 10) ∷ []))
+        ≡ cond (ltb n 10) (digit n ∷ []) (decimalTo g (n / 10) ++ (digit (n % 10) ∷ []))
+    go (yes t) r = rw (lt-ltb n 10 t) refl
+    go (no t) r = rw (r (omega (arith, split n)) (omega (arith, split n))) refl
+
+pub decimal-one : (n : ℕ) → n < 10 → decimal n ≡ digit n ∷ []
+unfolding decimal decimalTo
+decimal-one n h = rw (lt-ltb n 10 h) refl
+
+pub decimal-more : (n : ℕ) → 10 ≤ n → decimal n ≡ decimal (n / 10) ++ (digit (n % 10) ∷ [])
+unfolding decimal
+decimal-more n h =
+    step ∙ ap (λ (l : List ℕ). l ++ (digit (n % 10) ∷ [])) (to-same n (suc (n / 10)) (n / 10) (omega (arith, split n)) (omega arith))
+  where
+    step : decimalTo (suc n) n ≡ decimalTo n (n / 10) ++ (digit (n % 10) ∷ [])
+    step = unfold decimalTo in rw (le-ltb n 10 h) refl
+
+pub decimal-two : (n : ℕ) → 10 ≤ n → n < 100 → decimal n ≡ digit (n / 10) ∷ digit (n % 10) ∷ []
+decimal-two n h k = decimal-more n h ∙ ap (λ (l : List ℕ). l ++ (digit (n % 10) ∷ [])) (decimal-one (n / 10) (tens-less n 10 k))
+
+pub decimal-ends : (n : ℕ) → 100 ≤ n → decimal n ≡ (decimal (n / 10 / 10) ++ (digit (n / 10 % 10) ∷ [])) ++ (digit (n % 10) ∷ [])
+decimal-ends n h =
+    decimal-more n (omega arith)
+    ∙ ap (λ (l : List ℕ). l ++ (digit (n % 10) ∷ [])) (decimal-more (n / 10) (omega (arith, split n, last-digit n)))
 
 -- ---- its length
 

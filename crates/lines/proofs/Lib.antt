@@ -1,4 +1,4 @@
 pub mod Lengths
 pub mod Decimals
 pub mod Signed
-pub mod Lines
+pub mod Putting

@@ -6,6 +6,7 @@
 --   questionLine product answer, rowLine pattern count, endLine questions, refusalLine number
 --                 == "Q product answer; S pattern count; E questions", and "`R` and its number", each with a newline at its end
 --   textOf l      == the text that a line of the code holds: its front bytes
+--   longestLine   == 29, the most bytes of a line
 --   lineRoom      == 80, the bytes that a line of the code has room for
 use mathlib.Core.Bool.{cond}
 use mathlib.Core.List.{List, [], _∷_, _++_}
@@ -67,6 +68,9 @@ endLine questions = (letterE ∷ space ∷ decimal questions) ++ (newline ∷ []
 
 unfoldable pub refusalLine : ℕ → List ℕ
 refusalLine number = (letterR ∷ space ∷ decimal number) ++ (newline ∷ [])
+
+abbrev pub longestLine : ℕ
+longestLine = 29
 
 abbrev pub lineRoom : ℕ
 lineRoom = 80

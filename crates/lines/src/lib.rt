@@ -4,13 +4,17 @@ ghost use mathlib.Core.List.{[], _∷_, _++_};
 ghost use Prim.Native.Nat.{_+_, _≤_, _<_};
 ghost use lib.ListN.{length};
 ghost use lib.Seq.{paste};
-ghost use Rattle.lines.specs.Text.{space, lineRoom, decimal, signed, textOf, questionLine, rowLine, endLine, refusalLine};
+ghost use Rattle.lines.specs.Text.{newline, space, digit, lineRoom, longestLine, decimal, signed, textOf, questionLine, rowLine, endLine, refusalLine};
+ghost use Rattle.lines.specs.Put.{Put, PutLine};
 use integers::magnitude;
 use signs::Pattern;
 use signs::Product;
 
-// The room of a line. The longest, `Q 65535 -9223372036854775808` and a newline, has 29 bytes; an E line with nine numbers more has at most 77: a letter, a
-// space, 20 digits, nine times a space and at most 5 digits, and a newline.
+// The bytes of the longest line: `Q 65535 -9223372036854775808` and a newline.
+pub const LONGEST_LINE: usize = 29;
+
+// The room of a line. An E line with nine numbers more has at most 77 bytes: a letter, a space, 20 digits, nine times a space and at most 5 digits, and a
+// newline.
 pub const LINE_ROOM: usize = 80;
 
 // The most digits of a 64-bit number.
@@ -32,20 +36,6 @@ pub fn empty_line() -> Line
     }
 }
 
-// The line with one more byte.
-fn with_byte(line: Line, b: u8) -> Line
-    requires { ⌜ line .length < lineRoom ⌝ }
-    ensures { λ r. ⌜ (textOf r ≡ textOf line ++ (b ∷ [])) × (r .length ≡ line .length + 1) ⌝ }
-{
-    let at = line.length;
-    let mut bytes = line.bytes;
-    bytes[at] = b;
-    Line {
-        bytes: bytes,
-        length: at + 1,
-    }
-}
-
 // Writes the text to out, from byte `at` on.
 pub fn copy_at(text: &[u8], out: &mut [u8], at: usize)
     requires { ⌜ at + length (now text) ≤ length (now out) ⌝ }
@@ -58,74 +48,173 @@ pub fn copy_at(text: &[u8], out: &mut [u8], at: usize)
     }
 }
 
-// The line with the text after it.
-fn with_text(line: Line, text: &[u8]) -> Line
-    requires { ⌜ line .length + length (now text) ≤ lineRoom ⌝ }
-    ensures { λ r. ⌜ (textOf r ≡ textOf line ++ now (text .entry)) × (r .length ≡ line .length + length (now (text .entry))) ⌝ }
+// Writes one byte at `at`. This, and each call below, returns where its text ends.
+fn put_byte(out: &mut [u8], at: usize, b: u8) -> usize
+    requires { ⌜ at < length (now out) ⌝ }
+    ensures { λ r. ⌜ Put (now (out .entry)) at (b ∷ []) (now (out .exit)) r ⌝ }
 {
-    let at = line.length;
-    let mut bytes = line.bytes;
-    copy_at(text, &mut bytes, at);
-    Line {
-        bytes: bytes,
-        length: at + text.len(),
-    }
+    out[at] = b;
+    at + 1
 }
 
-// The line with a number after it.
-fn with_natural(line: Line, n: u64) -> Line
-    requires { ⌜ line .length + length (decimal n) ≤ lineRoom ⌝ }
-    ensures { λ r. ⌜ (textOf r ≡ textOf line ++ decimal n) × (r .length ≡ line .length + length (decimal n)) ⌝ }
+// A digit.
+fn put_digit(out: &mut [u8], at: usize, d: u64) -> usize
+    requires { ⌜ (at < length (now out)) × (d < 10) ⌝ }
+    ensures { λ r. ⌜ Put (now (out .entry)) at (digit d ∷ []) (now (out .exit)) r ⌝ }
+{
+    put_byte(out, at, b'0' + d as u8)
+}
+
+// A number of one or two digits.
+fn put_short(out: &mut [u8], at: usize, n: u64) -> usize
+    requires { ⌜ (at + length (decimal n) ≤ length (now out)) × (n < 100) ⌝ }
+    ensures { λ r. ⌜ Put (now (out .entry)) at (decimal n) (now (out .exit)) r ⌝ }
+{
+    if n < 10 {
+        return put_digit(out, at, n);
+    }
+    let k = put_digit(out, at, n / 10);
+    put_digit(out, k, n % 10)
+}
+
+// A number of any length.
+fn put_long(out: &mut [u8], at: usize, n: u64) -> usize
+    requires { ⌜ at + length (decimal n) ≤ length (now out) ⌝ }
+    ensures { λ r. ⌜ Put (now (out .entry)) at (decimal n) (now (out .exit)) r ⌝ }
 {
     let mut text = [0u8; MOST_DIGITS];
     let k = io::decimal(n, &mut text);
-    with_text(line, &text[..k])
+    copy_at(&text[..k], out, at);
+    at + k
 }
 
-// The line with an integer after it: a minus sign before a negative one.
-fn with_integer(line: Line, z: i64) -> Line
-    requires { ⌜ line .length + length (signed z) ≤ lineRoom ⌝ }
-    ensures { λ r. ⌜ (textOf r ≡ textOf line ++ signed z) × (r .length ≡ line .length + length (signed z)) ⌝ }
+// A number.
+fn put_natural(out: &mut [u8], at: usize, n: u64) -> usize
+    requires { ⌜ at + length (decimal n) ≤ length (now out) ⌝ }
+    ensures { λ r. ⌜ Put (now (out .entry)) at (decimal n) (now (out .exit)) r ⌝ }
+{
+    if n < 100 {
+        return put_short(out, at, n);
+    }
+    if n < 10000 {
+        let tens = n / 10;
+        let j = put_short(out, at, tens / 10);
+        let k = put_digit(out, j, tens % 10);
+        return put_digit(out, k, n % 10);
+    }
+    put_long(out, at, n)
+}
+
+// An integer: a minus sign before a negative one.
+fn put_integer(out: &mut [u8], at: usize, z: i64) -> usize
+    requires { ⌜ at + length (signed z) ≤ length (now out) ⌝ }
+    ensures { λ r. ⌜ Put (now (out .entry)) at (signed z) (now (out .exit)) r ⌝ }
 {
     if z < 0 {
-        return with_natural(with_byte(line, b'-'), magnitude(z));
+        let k = put_byte(out, at, b'-');
+        return put_natural(out, k, magnitude(z));
     }
-    with_natural(line, magnitude(z))
+    put_natural(out, at, magnitude(z))
 }
 
-// A line that begins with a letter and a number.
-fn with_letter(letter: u8, n: u64) -> Line
-    ensures { λ r. ⌜ (textOf r ≡ letter ∷ space ∷ decimal n) × (r .length ≡ 2 + length (decimal n)) ⌝ }
+// A letter and a number.
+fn put_letter(out: &mut [u8], at: usize, letter: u8, n: u64) -> usize
+    requires { ⌜ at + 2 + length (decimal n) ≤ length (now out) ⌝ }
+    ensures { λ r. ⌜ Put (now (out .entry)) at (letter ∷ space ∷ decimal n) (now (out .exit)) r ⌝ }
 {
-    with_natural(with_byte(with_byte(empty_line(), letter), b' '), n)
+    let j = put_byte(out, at, letter);
+    let k = put_byte(out, j, b' ');
+    put_natural(out, k, n)
+}
+
+// A whole line of a letter and a number.
+fn put_last(out: &mut [u8], at: usize, letter: u8, n: u64) -> usize
+    requires { ⌜ at + longestLine ≤ length (now out) ⌝ }
+    ensures { λ r. ⌜ PutLine (now (out .entry)) at ((letter ∷ space ∷ decimal n) ++ (newline ∷ [])) (now (out .exit)) r ⌝ }
+{
+    let end = put_letter(out, at, letter, n);
+    put_byte(out, end, b'\n')
 }
 
 // The line of a question: `Q`, the product and its query.
-pub fn question_line(product: Product, answer: i64) -> Line
-    ensures { λ r. ⌜ (textOf r ≡ questionLine (product .0) answer) × (r .length ≤ lineRoom) ⌝ }
+pub fn put_question(out: &mut [u8], at: usize, product: u16, answer: i64) -> usize
+    requires { ⌜ at + longestLine ≤ length (now out) ⌝ }
+    ensures { λ r. ⌜ PutLine (now (out .entry)) at (questionLine product answer) (now (out .exit)) r ⌝ }
 {
-    let begun = with_byte(with_letter(b'Q', product.0 as u64), b' ');
-    with_byte(with_integer(begun, answer), b'\n')
+    let i = put_letter(out, at, b'Q', product as u64);
+    let j = put_byte(out, i, b' ');
+    let k = put_integer(out, j, answer);
+    put_byte(out, k, b'\n')
 }
 
 // The line of a row: `S`, the pattern and the number of points that have it.
-pub fn row_line(pattern: Pattern, count: u16) -> Line
-    ensures { λ r. ⌜ (textOf r ≡ rowLine (pattern .0) count) × (r .length ≤ lineRoom) ⌝ }
+pub fn put_row(out: &mut [u8], at: usize, pattern: u16, count: u16) -> usize
+    requires { ⌜ at + longestLine ≤ length (now out) ⌝ }
+    ensures { λ r. ⌜ PutLine (now (out .entry)) at (rowLine pattern count) (now (out .exit)) r ⌝ }
 {
-    let begun = with_byte(with_letter(b'S', pattern.0 as u64), b' ');
-    with_byte(with_natural(begun, count as u64), b'\n')
+    let j = put_letter(out, at, b'S', pattern as u64);
+    let k = put_byte(out, j, b' ');
+    let m = put_natural(out, k, count as u64);
+    put_byte(out, m, b'\n')
 }
 
 // The last line: `E` and the number of questions.
-pub fn end_line(questions: usize) -> Line
-    ensures { λ r. ⌜ (textOf r ≡ endLine questions) × (r .length ≤ lineRoom) ⌝ }
+pub fn put_end(out: &mut [u8], at: usize, questions: usize) -> usize
+    requires { ⌜ at + longestLine ≤ length (now out) ⌝ }
+    ensures { λ r. ⌜ PutLine (now (out .entry)) at (endLine questions) (now (out .exit)) r ⌝ }
 {
-    with_byte(with_letter(b'E', questions as u64), b'\n')
+    put_last(out, at, b'E', questions as u64)
 }
 
 // The line of a refusal: `R` and its number.
+pub fn put_refusal(out: &mut [u8], at: usize, number: u16) -> usize
+    requires { ⌜ at + longestLine ≤ length (now out) ⌝ }
+    ensures { λ r. ⌜ PutLine (now (out .entry)) at (refusalLine number) (now (out .exit)) r ⌝ }
+{
+    put_last(out, at, b'R', number as u64)
+}
+
+// The same four as lines of their own.
+pub fn question_line(product: Product, answer: i64) -> Line
+    ensures { λ r. ⌜ (textOf r ≡ questionLine (product .0) answer) × (r .length ≤ lineRoom) ⌝ }
+{
+    let mut bytes = [0u8; LINE_ROOM];
+    let n = put_question(&mut bytes, 0, product.0, answer);
+    Line {
+        bytes: bytes,
+        length: n,
+    }
+}
+
+pub fn row_line(pattern: Pattern, count: u16) -> Line
+    ensures { λ r. ⌜ (textOf r ≡ rowLine (pattern .0) count) × (r .length ≤ lineRoom) ⌝ }
+{
+    let mut bytes = [0u8; LINE_ROOM];
+    let n = put_row(&mut bytes, 0, pattern.0, count);
+    Line {
+        bytes: bytes,
+        length: n,
+    }
+}
+
+pub fn end_line(questions: usize) -> Line
+    ensures { λ r. ⌜ (textOf r ≡ endLine questions) × (r .length ≤ lineRoom) ⌝ }
+{
+    let mut bytes = [0u8; LINE_ROOM];
+    let n = put_end(&mut bytes, 0, questions);
+    Line {
+        bytes: bytes,
+        length: n,
+    }
+}
+
 pub fn refusal_line(number: u16) -> Line
     ensures { λ r. ⌜ (textOf r ≡ refusalLine number) × (r .length ≤ lineRoom) ⌝ }
 {
-    with_byte(with_letter(b'R', number as u64), b'\n')
+    let mut bytes = [0u8; LINE_ROOM];
+    let n = put_refusal(&mut bytes, 0, number);
+    Line {
+        bytes: bytes,
+        length: n,
+    }
 }

@@ -4,6 +4,9 @@ pub mod Edges
 pub mod Printing
 pub mod EachLine
 pub mod Texts
+pub mod Playing
+pub mod ShortLines
+pub mod Remaining
 pub mod Placing
 pub mod Calls
 pub mod NoPoints

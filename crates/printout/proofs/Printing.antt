@@ -69,7 +69,7 @@ module _ (o : Opened) (r : State) (done : r .phase ≡ finished) where
   unfolding nextOf nextAt onFetch fetchOf fetchRule afterRow
   next-row p x h b g = rw (done, lt-ltb p (length (r .rows)) h, lt-ltb p 64 b, g) refl
 
-  rows-print : length (r .rows) ≤ mostPoints → (before after : List Row) → before ++ after ≡ r .rows
+  pub rows-print : length (r .rows) ≤ mostPoints → (before after : List Row) → before ++ after ≡ r .rows
       → Prints (at o r (rowAt (length before))) (rowLines after ++ (endLine (r .total) ∷ []))
   unfolding rowLines
   rows-print few before [] e =
@@ -281,6 +281,10 @@ module _ (c : List ℕ) (S : Sound c) where
   unfolding soundLines
   sound-prints = subst (λ (qs : List ℕ). Prints (begunOf c) (questionLines c qs ++ tail)) (whole .all) (whole .prints)
 
+  pub sound-questions : length (questionLines c (questions s E)) ≤ mostQuestions
+  unfolding questionLines
+  sound-questions = omega (arith, whole .few-q, length-map (questions s E) (λ p. questionLine p (queryOf c p)))
+
   pub sound-few : length (soundLines c) ≤ 658
   unfolding soundLines questionLines rowLines
   sound-few =
@@ -296,13 +300,12 @@ module _ (c : List ℕ) (S : Sound c) where
 
 -- ---- any card
 
-refused-prints : (c : List ℕ) (k : ℕ) → refusal c ≡ suc k → Prints (begunOf c) (refusalLine (suc k) ∷ [])
-unfolding begunOf
-refused-prints c k e =
-    prints-more (begunOf c) (at (opened c) (begunOf c .state) over) (refusalLine (suc k)) []
+-- a refused card, whatever the state is
+pub refused-prints : (c : List ℕ) (r : State) (k : ℕ) → refusal c ≡ suc k → Prints (at (opened c) r (question 0)) (refusalLine (suc k) ∷ [])
+refused-prints c r k e =
+    prints-more (at (opened c) r (question 0)) (at (opened c) r over) (refusalLine (suc k)) []
     (unfold nextOf nextAt onAnswer in
-    ap (onAnswer (opened c) (begunOf c .state) 0)
-    (answer-opened c 0 ∙ query-refused c 0 (λ z. absurd (omega (arith, e, z))) ∙ ap of-query.Refused e))
+    ap (onAnswer (opened c) r 0) (answer-opened c 0 ∙ query-refused c 0 (λ z. absurd (omega (arith, e, z))) ∙ ap of-query.Refused e))
     (unfold Prints in refl)
 
 -- THE THEOREM
@@ -312,7 +315,7 @@ prints c = go (refusal c) refl
   where
     go : (m : ℕ) → refusal c ≡ m → Prints (begunOf c) (unless m (λ k. refusalLine k ∷ []) (soundLines c))
     go zero e = sound-prints c (sound c e)
-    go (suc m) e = refused-prints c m e
+    go (suc m) e = unfold begunOf in refused-prints c (begunOf c .state) m e
 
 pub few-lines : (c : List ℕ) → length (linesOf c) ≤ 658
 unfolding linesOf

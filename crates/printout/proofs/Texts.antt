@@ -7,11 +7,10 @@ use mathlib.Core.List.{List, [], _∷_, _++_, append-assoc, append-nil}
 use Prim.Native.Nat.{ℕ, zero, suc, _≤_}
 use native.Mathlib.Omega.{arith}
 use lib.ListN.{length}
-use Rattle.printout.specs.Printout.{together, printoutOf, linesOf, NoneEmpty}
+use Rattle.printout.specs.Printout.{together, printoutOf, linesOf}
 use Rattle.printout.specs.Written.{mostLines}
 use Rattle.printout.specs.Progress.{over, ProgressState, begunOf, nextAt, nextOf, Prints}
 use Rattle.printout.proofs.Printing.{prints, few-lines}
-use Rattle.printout.proofs.EachLine.{none-empty}
 
 unfoldable pub leftAfter : ℕ → ProgressState → ProgressState
 leftAfter zero t = t
@@ -20,15 +19,6 @@ leftAfter (suc k) t = nextOf (leftAfter k t) .0
 unfoldable pub textAfter : ℕ → ProgressState → List ℕ
 textAfter zero t = []
 textAfter (suc k) t = textAfter k t ++ nextOf (leftAfter k t) .1
-
--- one line more
-pub left-more : (k : ℕ) (t u : ProgressState) → u ≡ leftAfter k t → nextOf u .0 ≡ leftAfter (suc k) t
-unfolding leftAfter
-left-more k t u e = ap (λ (x : ProgressState). nextOf x .0) e
-
-pub text-more : (k : ℕ) (t u : ProgressState) (l : List ℕ) → u ≡ leftAfter k t → l ≡ textAfter k t → l ++ nextOf u .1 ≡ textAfter (suc k) t
-unfolding textAfter
-text-more k t u l e f = ap₂ (λ (x : List ℕ) (y : ProgressState). x ++ nextOf y .1) f e
 
 left-first : (k : ℕ) (t : ProgressState) → leftAfter (suc k) t ≡ leftAfter k (nextOf t .0)
 unfolding leftAfter
@@ -54,29 +44,13 @@ text-over (suc k) t e =
     let (a, b) = next-over t e in
     text-first k t ∙ ap₂ _++_ b (text-over k (nextOf t .0) a)
 
-text-prints : (ls : List (List ℕ)) (k : ℕ) (t : ProgressState) → Prints t ls → length ls ≤ k → textAfter k t ≡ together ls
+pub text-prints : (ls : List (List ℕ)) (k : ℕ) (t : ProgressState) → Prints t ls → length ls ≤ k → textAfter k t ≡ together ls
 unfolding Prints together
 text-prints [] k t p h = text-over k t p
 text-prints (l ∷ ls) zero t p h = absurd (omega arith)
 text-prints (l ∷ ls) (suc k) t p h = text-first k t ∙ ap₂ _++_ (p .0) (text-prints ls k (nextOf t .0) (p .1) (omega arith))
 
--- an empty line comes only after the last
-ended : (ls : List (List ℕ)) (k : ℕ) (t : ProgressState) → Prints t ls → NoneEmpty ls → nextOf (leftAfter k t) .1 ≡ [] → length ls ≤ k
-unfolding Prints NoneEmpty leftAfter
-ended [] k t p f e = omega arith
-ended (l ∷ ls) zero t p f e = absurd (omega (arith, f .0, ap length (sym (p .0) ∙ e)))
-ended (l ∷ ls) (suc k) t p f e =
-    omega (arith, ended ls k (nextOf t .0) (p .1) (f .1) (ap (λ (u : ProgressState). nextOf u .1) (sym (left-first k t)) ∙ e))
-
--- so the text of the lines before an empty one is the printout
-pub printed-ended : (c : List ℕ) (k : ℕ) (u : ProgressState) → u ≡ leftAfter k (begunOf c) → nextOf u .1 ≡ []
-    → textAfter k (begunOf c) ≡ printoutOf c
-unfolding printoutOf
-printed-ended c k u e f =
-    text-prints (linesOf c) k (begunOf c) (prints c)
-    (ended (linesOf c) k (begunOf c) (prints c) (none-empty c) (ap (λ (x : ProgressState). nextOf x .1) (sym e) ∙ f))
-
--- and so is the text of mostLines lines
+-- so the text of mostLines lines is the printout
 pub printed-all : (c : List ℕ) → textAfter mostLines (begunOf c) ≡ printoutOf c
 unfolding printoutOf
 printed-all c = text-prints (linesOf c) mostLines (begunOf c) (prints c) (few-lines c)

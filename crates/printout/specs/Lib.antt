@@ -1,3 +1,4 @@
 pub mod Printout
 pub mod Progress
 pub mod Written
+pub mod Steps

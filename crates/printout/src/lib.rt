@@ -1,25 +1,33 @@
 // The printout of a card (document 01, "One card through"): whole, or line by line.
 //
-// No public call has a condition: any bytes, and any progress, have an answer.
+// `begin`, `next_line` and `printout` have no condition: any bytes, and any progress, have an answer. `put_lines` is for programs that lend a slice with
+// room for any printout, which their proofs show.
 ghost use mathlib.Core.Path.{_≡_};
-ghost use mathlib.Core.List.{_++_};
-ghost use Prim.Native.Nat.{_+_, _≤_};
+ghost use mathlib.Core.List.{List, [], _∷_, _++_};
+ghost use Prim.Native.Nat.{ℕ, _+_, _*_, _≤_};
+ghost use lib.IntN.{ℤ};
 ghost use lib.ListN.{length, take};
 ghost use Rattle.query.specs.Opened.{openedAnswer as answerOn};
+ghost use Rattle.refusals.specs.Limits.{mostPoints};
+ghost use Rattle.rounds.specs.Rows.{rowsWith};
 ghost use Rattle.rounds.specs.RoundEnd.{roundRows};
-ghost use Rattle.runs.specs.Run.{answerOf, fetchOf};
-ghost use Rattle.determination.specs.Record.{stateOf};
-ghost use Rattle.lines.specs.Text.{lineRoom, textOf};
-ghost use Rattle.printout.specs.Printout.{printoutOf};
+ghost use Rattle.runs.specs.Run.{done, answerOf, fetchOf};
+ghost use Rattle.determination.specs.Record.{runOf, stateOf, stepOf};
+ghost use Rattle.lines.specs.Put.{Put};
+ghost use Rattle.lines.specs.Text.{longestLine, endLine};
+ghost use Rattle.printout.specs.Printout.{rowLines, together, printoutOf};
+ghost use Rattle.printout.specs.Steps.{asking, Settled, Plays};
 ghost use Rattle.printout.specs.Written.{mostText, writtenOf};
-ghost use Rattle.printout.specs.Progress.{progressOf, stageOf, begunOf, gives, onStep, onAnswer, onFetch, afterRow, nextOf, Shows};
+ghost use Rattle.printout.specs.Progress.{progressOf, stageOf, begunOf, onStep, onAnswer, onFetch, afterRow, nextOf, Shows};
 use determination::Fetched;
+use determination::Head;
 use determination::Run;
 use determination::Step;
-use lines::LINE_ROOM;
+use lines::LONGEST_LINE;
 use lines::Line;
 use query::Opened;
 use query::Queried;
+use refusals::MOST_PRODUCTS;
 use refusals::MOST_QUESTIONS;
 use refusals::MOST_ROWS;
 use refusals::PAST_LAST;
@@ -29,8 +37,11 @@ use signs::Product;
 // The most lines of a printout: the questions, the rows and the last line.
 pub const MOST_LINES: usize = MOST_QUESTIONS + MOST_ROWS + 1;
 
-// The room that so many lines need at most.
-pub const MOST_TEXT: usize = MOST_LINES * LINE_ROOM;
+// The most bytes of a line of a card's printout: `Q 6560 -64` and a newline.
+const SHORT_LINE: usize = 11;
+
+// The room that a printout is written in: that of so many lines, and past them that of the longest lines from a last question on.
+pub const MOST_TEXT: usize = MOST_LINES * SHORT_LINE + (MOST_ROWS + 2) * LONGEST_LINE;
 
 // What comes next: a question, the row at a position, or nothing more.
 pub enum Stage {
@@ -161,35 +172,147 @@ pub fn next_line(progress: Progress) -> Printed
     }
 }
 
-// Writes a line to out, from byte `at` on, and returns where it ends.
-fn put_line(line: Line, out: &mut [u8], at: usize) -> usize
-    requires { ⌜ (line .length ≤ lineRoom) × (at + lineRoom ≤ length (now out)) ⌝ }
-    ensures { λ r. ⌜ (take r (now (out .exit)) ≡ take at (now (out .entry)) ++ textOf line) × (r ≤ at + lineRoom) ⌝ }
+// Writes the rows and the last line to out, from byte `at` on, and returns where they end.
+fn put_rows(patterns: &[u16], counts: &[u16], asked: usize, out: &mut [u8], at: usize) -> usize
+    requires { ⌜ (length (now counts) ≡ length (now patterns)) × (at + longestLine * (length (now patterns) + 1) ≤ length (now out)) ⌝ }
+    ensures { λ r. ⌜ Put (now (out .entry)) at (together (rowLines (rowsWith (now (patterns .entry)) (now (counts .entry))) ++ (endLine asked ∷ []))) (now (out .exit)) r ⌝ }
+    ensures { λ r. ⌜ r ≤ at + longestLine * (length (now (patterns .entry)) + 1) ⌝ }
 {
-    let n = line.length;
-    let bytes = line.bytes;
-    lines::copy_at(&bytes[..n], out, at);
-    at + n
+    let mut end = at;
+    let mut k = 0;
+    while k < patterns.len() {
+        end = lines::put_row(out, end, patterns[k], counts[k]);
+        k += 1;
+    }
+    lines::put_end(out, end, asked)
 }
 
-// Writes the printout of a card to the front of out, which has room for any, and returns how many bytes it has. It stops at the empty line, which comes
-// only after the last.
-fn put_lines(card: &[u8], out: &mut [u8]) -> usize
+// A question of a printout behind it: the numbers of the run's record, the next product, where the text ends, and whether it is over.
+struct Played {
+    head: Head,
+    product: u16,
+    at: usize,
+    over: bool,
+}
+
+// Writes the line of the product a whose query is z, after which the run's record and the step are these, and where the run is done all lines that
+// follow.
+fn put_step(
+    head: Head,
+    step: Step,
+    patterns: &[u16],
+    counts: &[u16],
+    a: u16,
+    z: i64,
+    out: &mut [u8],
+    at: usize,
+) -> Played
+    requires { ⌜ (length (now patterns) ≡ mostPoints) × (length (now counts) ≡ mostPoints) × (at + longestLine * (mostPoints + 2) ≤ length (now out)) ⌝ }
+    requires { ⌜ (stepOf step ≡ done → head .rows ≤ mostPoints) ⌝ }
+    ensures { λ r. ⌜ ((o : Opened) (Q : List ℕ) (A : List ℤ) → Settled (stateOf (runOf head (now (patterns .entry)) (now (counts .entry)) Q A), stepOf step) → Plays (onStep o a z (stateOf (runOf head (now (patterns .entry)) (now (counts .entry)) Q A), stepOf step)) (now (out .entry)) at (now (out .exit)) (r .at) (asking o (stateOf (runOf (r .head) (now (patterns .entry)) (now (counts .entry)) Q A)) (r .product)) (r .over)) ⌝ }
+{
+    match step {
+        Step::Ask(b) => {
+            let end = lines::put_question(out, at, a, z);
+            Played {
+                head: head,
+                product: b.0,
+                at: end,
+                over: false,
+            }
+        }
+        Step::Done => {
+            let rows = head.rows;
+            let end = lines::put_question(out, at, a, z);
+            let last = put_rows(&patterns[..rows], &counts[..rows], head.asked, out, end);
+            Played {
+                head: head,
+                product: 0,
+                at: last,
+                over: true,
+            }
+        }
+        Step::Refused(k) => {
+            let end = lines::put_refusal(out, at, k);
+            Played {
+                head: head,
+                product: 0,
+                at: end,
+                over: true,
+            }
+        }
+    }
+}
+
+// Asks the product a, answers the run and writes the line, and where it is over all lines that follow. The run's record is in parts.
+fn put_question(
+    card: Opened,
+    head: Head,
+    patterns: &mut [u16],
+    counts: &mut [u16],
+    products: &mut [u16],
+    answers: &mut [i8],
+    a: u16,
+    out: &mut [u8],
+    at: usize,
+) -> Played
+    requires { ⌜ (length (now patterns) ≡ mostPoints) × (length (now counts) ≡ mostPoints) × (length (now products) ≡ mostPoints) × (length (now answers) ≡ 2 * mostPoints) ⌝ }
+    requires { ⌜ at + longestLine * (mostPoints + 2) ≤ length (now out) ⌝ }
+    ensures { λ r. ⌜ Plays (nextOf (asking card (stateOf (runOf head (now (patterns .entry)) (now (counts .entry)) (now (products .entry)) (now (answers .entry)))) a)) (now (out .entry)) at (now (out .exit)) (r .at) (asking card (stateOf (runOf (r .head) (now (patterns .exit)) (now (counts .exit)) (now (products .exit)) (now (answers .exit)))) (r .product)) (r .over) ⌝ }
+{
+    match query::ask(card, Product(a)) {
+        Queried::Counts(t) => {
+            let z = sign_counts::panel_number(t);
+            let turn = determination::answer_parts(head, patterns, counts, products, answers, z);
+            let after = turn.head;
+            let step = turn.step;
+            put_step(after, step, patterns, counts, a, z, out, at)
+        }
+        Queried::Refused(k) => {
+            let end = lines::put_refusal(out, at, k);
+            Played {
+                head: head,
+                product: 0,
+                at: end,
+                over: true,
+            }
+        }
+    }
+}
+
+// Writes the printout of a card to the front of out, which has room for any, and returns how many bytes it has.
+pub fn put_lines(card: &[u8], out: &mut [u8]) -> usize
     requires { ⌜ length (now out) ≡ mostText ⌝ }
     ensures { λ r. ⌜ (take r (now (out .exit)) ≡ printoutOf (now (card .entry))) × (r ≡ length (printoutOf (now (card .entry)))) × (r ≤ mostText) ⌝ }
 {
-    let mut progress = begin(card);
+    let opened = query::open(card);
+    let mut head = determination::first_head(opened.s);
+    let mut patterns = [0u16; MOST_ROWS];
+    let mut counts = [0u16; MOST_ROWS];
+    let mut products = [0u16; MOST_ROWS];
+    let mut answers = [0i8; MOST_PRODUCTS];
+    let mut a: u16 = 0;
     let mut at = 0;
     let mut k = 0;
-    while k < MOST_LINES {
-        let next = next_line(progress);
-        let after = next.progress;
-        let line = next.line;
-        if line.length == 0 {
+    while k < MOST_QUESTIONS {
+        let played = put_question(
+            opened,
+            head,
+            &mut patterns,
+            &mut counts,
+            &mut products,
+            &mut answers,
+            a,
+            out,
+            at,
+        );
+        at = played.at;
+        if played.over {
             return at;
         }
-        at = put_line(line, out, at);
-        progress = after;
+        let after = played.head;
+        head = after;
+        a = played.product;
         k += 1;
     }
     at

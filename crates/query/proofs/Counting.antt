@@ -9,7 +9,7 @@ use mathlib.Core.Bool.{Bool, true, false, cond}
 use mathlib.Core.List.{[], _∷_, map, map-append}
 use Prim.Native.Nat.{ℕ, zero, suc, _+_, _*_, _-_, _/_, _%_, _^_, _<_, _≤_, min, max}
 use native.Mathlib.Omega.{arith}
-use native.Mathlib.Nat.{pow-suc, one-le-pow, div-lt-iff-lt-mul, div-add-mod'}
+use native.Mathlib.Nat.{pow-suc}
 use lib.Bits.{bitAnd, bitOr, bitXor, differ, and-le-l}
 use lib.Count.{ones}
 use lib.Dec.{eqb}
@@ -147,51 +147,47 @@ module _ (P : Opened) (a : ℕ) where
   kept-none =
       record { small = ones-lt (P .n); at = λ k h. rw (bit-first (P .n) k h, bit-none k) (one-*ℤ (sign (P .s) a (columnTo P (P .s) k))) }
 
-  module _ (rest j left odd : ℕ) (fits : rest < 3 ^ suc j) where
+  -- the power d of polynomial j, and the lower ones r
+  module _ (r d j left odd : ℕ) (three : d < 3) (below : r < 3 ^ j) where
     kept-sign : (k : ℕ) →
         let p = getD (P .positive) j 0 in
         let n = getD (P .negative) j 0 in
-        let d = rest / 3 ^ j in
-        signAt (bitAt (cond (eqb d 0) left (bitAnd left (bitOr p n))) k) (bitAt (cond (eqb d 1) (bitXor odd n) odd) k) *ℤ sign j
-        (rest % 3 ^ j) (columnTo P j k)
-        ≡ signAt (bitAt left k) (bitAt odd k) *ℤ sign (suc j) rest (columnTo P (suc j) k)
+        signAt (bitAt (cond (eqb d 0) left (bitAnd left (bitOr p n))) k) (bitAt (cond (eqb d 1) (bitXor odd n) odd) k) *ℤ sign j r
+        (columnTo P j k)
+        ≡ signAt (bitAt left k) (bitAt odd k) *ℤ sign (suc j) (r + d * 3 ^ j) (columnTo P (suc j) k)
     unfolding sign columnTo
     kept-sign k =
         let p = getD (P .positive) j 0 in
         let n = getD (P .negative) j 0 in
-        let d = rest / 3 ^ j in
         let q = digitBy (bitAt p k) (bitAt n k) in
         let b = column-below P j k in
         let x = signAt (bitAt left k) (bitAt odd k) in
         let y = power (signOf q) d in
-        let z = sign j (rest % 3 ^ j) (columnTo P j k) in
-        let l : d < 3 = div-lt-iff-lt-mul {k = 3 ^ j} {x = rest} {y = 3} (one-le-pow j 3 (omega arith)) .1 (omega (arith, pow-suc 3 j)) in
+        let z = sign j r (columnTo P j k) in
         ap (λ (w : ℤ). w *ℤ z) (ap₂ signAt (left-bit (eqb d 0) left p n k) (odd-bit (eqb d 1) odd n k)
-        ∙ factor d (bitAt p k) (bitAt n k) (bitAt left k) (bitAt odd k) l (bit-small p k) (bit-small n k) (bit-small left k)
+        ∙ factor d (bitAt p k) (bitAt n k) (bitAt left k) (bitAt odd k) three (bit-small p k) (bit-small n k) (bit-small left k)
         (bit-small odd k))
         ∙ *ℤ-assoc y x z
         ∙ *ℤ-left-comm y x z
-        ∙ ap (_*ℤ_ x) (sym (rw (top j q b, low j q b) refl))
+        ∙ ap (_*ℤ_ x) (sym (rw (top j q b, low j q b, top j d below, low j d below) refl))
 
-    pub kept-next : Kept P a rest (suc j) left odd →
+    kept-next : Kept P a (r + d * 3 ^ j) (suc j) left odd →
         let p = getD (P .positive) j 0 in
         let n = getD (P .negative) j 0 in
-        let d = rest / 3 ^ j in
-        Kept P a (rest % 3 ^ j) j (cond (eqb d 0) left (bitAnd left (bitOr p n))) (cond (eqb d 1) (bitXor odd n) odd)
+        Kept P a r j (cond (eqb d 0) left (bitAnd left (bitOr p n))) (cond (eqb d 1) (bitXor odd n) odd)
     kept-next m =
         record {
-          small = omega (arith, left-less (eqb (rest / 3 ^ j) 0) left (bitOr (getD (P .positive) j 0) (getD (P .negative) j 0)), m .small);
+          small = omega (arith, left-less (eqb d 0) left (bitOr (getD (P .positive) j 0) (getD (P .negative) j 0)), m .small);
           at = λ k h. kept-sign k ∙ m .at k h;
         }
 
   -- the same of the numbers that the code has
-  pub kept-off : (i j rest w d left odd left′ odd′ : ℕ) → j ≡ suc i → rest < 3 ^ j → w ≡ 3 ^ i → d ≡ rest / w →
-      left′ ≡ cond (eqb d 0) left (bitAnd left (bitOr (getD (P .positive) i 0) (getD (P .negative) i 0))) → odd′
-      ≡ cond (eqb d 1) (bitXor odd (getD (P .negative) i 0)) odd
-      → Kept P a rest j left odd → Kept P a (rest - d * w) i left′ odd′
-  kept-off i j rest w d left odd left′ odd′ ej fits ew ed el eo m =
-      let o : rest - rest / 3 ^ i * 3 ^ i ≡ rest % 3 ^ i = omega (arith, div-add-mod' rest (3 ^ i)) in
-      rw (el, eo, ed, ew, o) (kept-next rest i left odd (rw (← ej) fits) (subst (λ (x : ℕ). Kept P a rest x left odd) ej m))
+  pub kept-off : (i j rest r d left odd : ℕ) → j ≡ suc i → d < 3 → r < 3 ^ i → rest ≡ r + d * 3 ^ i → Kept P a rest j left odd
+      → Kept P a r i (cond (eqb d 0) left (bitAnd left (bitOr (getD (P .positive) i 0) (getD (P .negative) i 0))))
+      (cond (eqb d 1) (bitXor odd (getD (P .negative) i 0)) odd)
+  kept-off i j rest r d left odd ej three below er m =
+      kept-next r d i left odd three below
+      (subst (λ (x : ℕ). Kept P a x (suc i) left odd) er (subst (λ (x : ℕ). Kept P a rest x left odd) ej m))
 
 -- ---- the three counts by the two words
 

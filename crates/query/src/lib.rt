@@ -5,11 +5,9 @@
 // bytes, any product number and any opened card have an answer, and what is lent stays as it was. `refused` and `count` are the two parts of `ask`, for
 // lists of products (`query_list`): `count` is for a product that is there, on a card that is not refused, which its callers' proofs show.
 ghost use mathlib.Core.Path.{_≡_};
-ghost use mathlib.Core.Bool.{cond};
 ghost use Prim.Native.Nat.{_-_, _^_, _≤_, _<_};
-ghost use lib.Bits.{bitAnd, bitOr, bitXor};
+ghost use lib.Bits.{bitAnd};
 ghost use lib.Count.{ones};
-ghost use lib.Dec.{eqb};
 ghost use Rattle.refusals.specs.Limits.{mostPolynomials, mostPoints};
 ghost use Rattle.layout.specs.Format.{polynomials, pointCount, pointsAt};
 ghost use Rattle.plane.specs.Contents.{contentsOf};
@@ -27,7 +25,6 @@ use refusals::WRONG_PRODUCT;
 use sign_counts::SignCounts;
 use signs::Product;
 use signs::bound;
-use signs::digit;
 use signs::power;
 
 // Every bit of a word.
@@ -133,26 +130,6 @@ fn first_points(n: usize) -> u64
     EVERY
 }
 
-// The points left where a product is not 0, with one factor more: a polynomial to the power d, by the points where it is positive or negative.
-fn left_by(d: u16, left: u64, positive: u64, negative: u64) -> u64
-    ensures { λ r. ⌜ r ≡ cond (eqb d 0) left (bitAnd left (bitOr positive negative)) ⌝ }
-{
-    if d == 0 {
-        return left;
-    }
-    left & (positive | negative)
-}
-
-// The points where an odd number of factors is negative, with that factor more.
-fn odd_by(d: u16, odd: u64, negative: u64) -> u64
-    ensures { λ r. ⌜ r ≡ cond (eqb d 1) (bitXor odd negative) odd ⌝ }
-{
-    if d == 1 {
-        return odd ^ negative;
-    }
-    odd
-}
-
 // The three counts of a product over n points by two words: − at the odd ones of the points left, + at the others, and 0 at the points that are not left.
 fn counts_by(n: usize, left: u64, odd: u64) -> SignCounts
     requires { ⌜ (n ≤ mostPoints) × (left < 2 ^ n) ⌝ }
@@ -182,10 +159,16 @@ pub fn count(card: Opened, a: u16) -> SignCounts
     while 0 < j {
         j -= 1;
         let w = power(j);
-        let d = digit(rest, w);
-        left = left_by(d, left, card.positive[j], card.negative[j]);
-        odd = odd_by(d, odd, card.negative[j]);
-        rest -= d * w;
+        if w <= rest {
+            let negative = card.negative[j];
+            left = left & (card.positive[j] | negative);
+            rest -= w;
+            if w <= rest {
+                rest -= w;
+            } else {
+                odd = odd ^ negative;
+            }
+        }
     }
     counts_by(card.n, left, odd)
 }

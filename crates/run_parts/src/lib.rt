@@ -1,20 +1,21 @@
-// Parts of a run (document 01, "The run") that need no record: the test of its numbers, the products of a round, the rows of round 0 and those after
-// a round's last answer. Lists stand at the front of arrays as the record has them.
+// Parts of a run (document 01, "The run") that need no record: the test of its numbers, the products of a round, and the rows after a round's last
+// answer. Lists stand at the front of arrays as the record has them.
 //
 // The functions with a `requires` are for the crate above, whose calls show it.
 ghost use mathlib.Core.Path.{_≡_};
+ghost use mathlib.Core.Bool.{_&&_};
 ghost use mathlib.Core.List.{[], _∷_, _++_};
 ghost use Prim.Native.Nat.{_+_, _*_, _^_, _≤_, _<_};
+ghost use lib.Dec.{leb};
+ghost use lib.IntN.{natAbs};
 ghost use lib.ListN.{length, take, drop};
 ghost use Rattle.refusals.specs.Limits.{mostPolynomials, mostPoints};
-ghost use Rattle.signs.specs.Lists.{Below, Rising, isBelow};
-ghost use Rattle.signs.specs.Adapted.{adapted as adaptedOf};
-ghost use Rattle.rounds.specs.Rows.{rowIf, rowsWith};
+ghost use Rattle.signs.specs.Lists.{Below, isBelow};
+ghost use Rattle.rounds.specs.Rows.{rowsWith};
 ghost use Rattle.rounds.specs.RoundEnd.{roundRows};
-ghost use Rattle.run_round_end.specs.Outcome.{Ended, Left};
+ghost use Rattle.run_round_end.specs.Outcome.{Left};
 ghost use Rattle.runs.specs.Run.{roundProduct};
-ghost use Rattle.run_parts.specs.Parts.{inLimits, heldRows};
-use adapted::adapted;
+ghost use Rattle.run_parts.specs.Parts.{inLimits, Copied};
 use refusals::MOST_POLYNOMIALS;
 use refusals::MOST_PRODUCTS;
 use refusals::MOST_ROWS;
@@ -27,19 +28,10 @@ use signs::power;
 // The most points, as a record has their number.
 const MOST_POINTS: u64 = refusals::MOST_POINTS as u64;
 
-// Rows on their way into a record.
-pub struct Rows {
-    pub number: usize,
-    pub patterns: [u16; MOST_ROWS],
-    pub counts: [u16; MOST_ROWS],
-}
+// The largest answer that counts can fit, and the least.
+const MOST_ANSWER: i8 = refusals::MOST_POINTS as i8;
 
-// The end of a round, with the arrays that hold its rows.
-pub struct Found {
-    pub next: Next,
-    pub patterns: [u16; MOST_ROWS],
-    pub counts: [u16; MOST_ROWS],
-}
+const LEAST_ANSWER: i8 = 0 - MOST_ANSWER;
 
 // ---- tests
 
@@ -84,16 +76,6 @@ pub fn in_limits(s: usize, asked: usize, round: usize, n: u64, rows: usize, answ
 
 // ---- the products of a round
 
-// The adapted list of the first n patterns, at the front.
-pub fn products_of(i: usize, patterns: &[u16], n: usize) -> [u16; MOST_ROWS]
-    requires { ⌜ (i ≤ mostPolynomials) × (n ≤ mostPoints) × (n ≤ length (now patterns)) × Rising (take n (now patterns)) × Below (3 ^ i) (take n (now patterns)) ⌝ }
-    ensures { λ r. ⌜ take n r ≡ adaptedOf i (take n (now (patterns .entry))) ⌝ }
-{
-    let mut products = [0u16; MOST_ROWS];
-    adapted(&patterns[..n], i, 0, &mut products, 0);
-    products
-}
-
 // The k-th product of round i + 1, where the adapted list of the rows before it is the first n numbers of the list.
 pub fn round_product(i: usize, list: &[u16], n: usize, k: usize) -> Product
     requires { ⌜ (i < mostPolynomials) × (n ≤ length (now list)) × Below (3 ^ i) (take n (now list)) × (k < 2 * n) ⌝ }
@@ -107,76 +89,63 @@ pub fn round_product(i: usize, list: &[u16], n: usize, k: usize) -> Product
     Product(list[k - n] + twice)
 }
 
-// ---- the rows of a round
+// ---- the rows after a round
 
-// The rows of round 0: so many points of pattern 0.
-pub fn first_rows(count: u16) -> Rows
-    ensures { λ r. ⌜ (heldRows r ≡ rowIf 0 count) × (r .number ≤ 1) × (0 < count → (r .number ≡ 1) × (take (r .number) (r .patterns) ≡ 0 ∷ [])) ⌝ }
+// Whether all before are in −64 .. 64, and so is z.
+fn still_within(all: bool, z: i8) -> bool
+    ensures { λ r. ⌜ r ≡ leb (natAbs z) mostPoints && all ⌝ }
 {
-    let patterns = [0u16; MOST_ROWS];
-    let mut counts = [0u16; MOST_ROWS];
-    counts[0] = count;
-    if count == 0 {
-        return Rows {
-            number: 0,
-            patterns: patterns,
-            counts: counts,
-        };
+    if z < LEAST_ANSWER {
+        return false;
     }
-    Rows {
-        number: 1,
-        patterns: patterns,
-        counts: counts,
+    if MOST_ANSWER < z {
+        return false;
     }
+    all
 }
 
-// The first n answers, 64 bits wide, at the front.
-fn widened(answers: &[i8], n: usize) -> [i64; MOST_PRODUCTS]
-    requires { ⌜ (n ≤ 2 * mostPoints) × (n ≤ length (now answers)) ⌝ }
-    ensures { λ r. ⌜ (take n r ≡ take n (now (answers .entry))) × (length r ≡ 2 * mostPoints) ⌝ }
+// Copies the answers to the front of out, 16 bits wide. False where one is outside −64 .. 64.
+fn copy_answers(answers: &[i8], out: &mut [i16]) -> bool
+    requires { ⌜ length (now answers) ≤ length (now out) ⌝ }
+    ensures { λ r. ⌜ Copied (now (answers .entry)) (now (out .exit)) r ⌝ }
 {
-    let mut wide = [0i64; MOST_PRODUCTS];
+    let mut all = true;
     let mut k = 0;
-    while k < n {
-        wide[k] = answers[k] as i64;
+    while k < answers.len() {
+        let z = answers[k];
+        all = still_within(all, z);
+        out[k] = z as i16;
         k += 1;
     }
-    wide
+    all
 }
 
-// The rows after round i + 1, or that there are none.
-fn rows_after(i: usize, patterns: &[u16], counts: &[u16], answers: &[i64]) -> Found
-    requires { ⌜ (i < mostPolynomials) × (length (now counts) ≡ length (now patterns)) ⌝ }
-    ensures { λ r. ⌜ Ended i (now (patterns .entry)) (now (counts .entry)) (now (answers .entry)) (r .next) (r .patterns) (r .counts) ⌝ }
-    ensures { λ r. ⌜ length (r .patterns) ≡ mostPoints ⌝ }
-{
-    let mut new = [0u16; MOST_ROWS];
-    let mut numbers = [0u16; MOST_ROWS];
-    let next = next_rows(i, patterns, counts, answers, &mut new, &mut numbers);
-    Found {
-        next: next,
-        patterns: new,
-        counts: numbers,
-    }
-}
-
-// The same from the arrays of a record: the first so many rows, the first k answers, and the round's last answer.
-pub fn find_rows<'a>(
+// The rows after round i + 1: from the rows before it, patterns and counts, the round's answers but the last, and that one. They are written to the
+// front of the two slices; where there are none, what those hold is left open.
+pub fn find_rows(
     i: usize,
-    patterns: &'a [u16],
-    counts: &'a [u16],
-    rows: usize,
-    answers: &'a [i8],
-    k: usize,
+    patterns: &[u16],
+    counts: &[u16],
+    answers: &[i8],
     last: i64,
-) -> Found
-    requires { ⌜ (i < mostPolynomials) × (rows ≤ length (now patterns)) × (rows ≤ length (now counts)) × (k < 2 * mostPoints) × (k ≤ length (now answers)) ⌝ }
-    ensures { λ r. ⌜ Left (roundRows i (rowsWith (take rows (now (patterns .entry))) (take rows (now (counts .entry)))) (take k (now (answers .entry)) ++ (last ∷ []))) (r .next) (r .patterns) (r .counts) ⌝ }
-    ensures { λ r. ⌜ length (r .patterns) ≡ mostPoints ⌝ }
+    new: &mut [u16],
+    numbers: &mut [u16],
+) -> Next
+    requires { ⌜ (i < mostPolynomials) × (length (now counts) ≡ length (now patterns)) × (length (now answers) + 1 ≡ 2 * length (now patterns)) × (length (now patterns) ≤ mostPoints) ⌝ }
+    requires { ⌜ (natAbs last ≤ mostPoints) × (mostPoints ≤ length (now new)) × (mostPoints ≤ length (now numbers)) ⌝ }
+    ensures { λ r. ⌜ Left (roundRows i (rowsWith (now (patterns .entry)) (now (counts .entry))) (now (answers .entry) ++ (last ∷ []))) r (now (new .exit)) (now (numbers .exit)) ⌝ }
 {
-    let mut wide = widened(answers, k);
-    wide[k] = last;
-    rows_after(i, &patterns[..rows], &counts[..rows], &wide[..k + 1])
+    let n = patterns.len();
+    let mut x = [0i16; MOST_ROWS];
+    let mut y = [0i16; MOST_ROWS];
+    if !copy_answers(&answers[..n], &mut x) {
+        return Next::None;
+    }
+    if !copy_answers(&answers[n..], &mut y) {
+        return Next::None;
+    }
+    y[n - 1] = last as i16;
+    next_rows(i, patterns, counts, &x[..n], &y[..n], new, numbers)
 }
 
 // ---- rows handed out

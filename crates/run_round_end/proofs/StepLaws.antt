@@ -67,6 +67,14 @@ length-sum [] t = omega arith
 length-sum (zero ∷ C) t = let x : _≡_ {A = ℕ} 0 1 = cc in absurd (omega arith)
 length-sum (suc c ∷ C) t = omega (arith, length-sum C (both-right (ltb 0 (suc c)) (allPositive C) t))
 
+-- and none is more than it
+pub count-at : (C : List ℕ) (k : ℕ) → getD C k 0 ≤ sum C
+unfolding sum
+count-at [] zero = omega arith
+count-at [] (suc k) = omega arith
+count-at (c ∷ C) zero = omega arith
+count-at (c ∷ C) (suc k) = omega (arith, count-at C k)
+
 -- ---- rows
 
 pub patterns-rowsWith : (P C : List ℕ) → length C ≡ length P → patterns (rowsWith P C) ≡ P
@@ -285,6 +293,7 @@ proper-from i P C e t =
 pub record Ready (w : ℕ) (P C : List ℕ) (es gs : List ℤ) : Type 0 where
   pub base : w ≤ 2187
   pub below : Below w P
+  pub total : sum C ≤ mostPoints
   pub splits : allSplit (rowsWith P C) es gs ≡ true
   pub room :
       length (signRows w 0 (rowsWith P C) es gs) + length (signRows w 1 (rowsWith P C) es gs)
@@ -302,6 +311,7 @@ ready i w P C es gs h e l t u =
     record {
       base = omega (arith, three-mono i 7 (omega arith));
       below = rw e (below-from (3 ^ i) P (p .below));
+      total = p .total;
       splits = u;
       room =
           omega (

@@ -3,10 +3,7 @@
 --   withSign t           == the count with the sign of the digit t: `withZero` for 0, `withPlus` for 1, `withMinus` for 2
 --   signRows w t R es gs == the rows of R extended by the sign of the digit t, those with a count above 0; w is the weight of the new digit
 --   properCounts C       == the test that the counts C are above 0 and add up to at most 64
---   Solved o r ws        == what a question to the solver leaves: whether there is a solution, and the solution
-use mathlib.Core.Path.{_≡_}
-use mathlib.Core.Bool.{Bool, true, false, _&&_}
-use mathlib.Core.Option.{Option, some, none}
+use mathlib.Core.Bool.{Bool, _&&_}
 use mathlib.Core.List.{List}
 use Prim.Native.Nat.{ℕ, zero, suc, _*_}
 use lib.Dec.{leb}
@@ -26,7 +23,3 @@ signRows w t R es gs = extendedBy (t * w) (withSign t) R es gs
 
 unfoldable pub properCounts : List ℕ → Bool
 properCounts C = allPositive C && leb (sum C) mostPoints
-
-abbrev pub Solved : Option (List ℤ) → Bool → List ℤ → Type 0
-Solved none r ws = r ≡ false
-Solved (some vs) r ws = (r ≡ true) × (ws ≡ vs)

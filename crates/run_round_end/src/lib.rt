@@ -4,24 +4,24 @@
 // The functions with a `requires` are for this crate and those above it, whose calls show it.
 ghost use mathlib.Core.Path.{_≡_};
 ghost use mathlib.Core.Bool.{true};
-ghost use Prim.Native.Nat.{_+_, _*_, _^_, _≤_, _<_};
+ghost use mathlib.Core.List.{_++_};
+ghost use Prim.Native.Nat.{_+_, _≤_, _<_};
+ghost use lib.IntN.{natAbs};
 ghost use lib.ListN.{length};
 ghost use lib.Seq.{sets};
 ghost use Rattle.refusals.specs.Limits.{mostPolynomials, mostPoints};
-ghost use Rattle.signs.specs.Lists.{Below, isBelow, isRising};
-ghost use Rattle.solutions.specs.Solver.{solverOf};
+ghost use Rattle.integers.specs.Sums.{Within};
+ghost use Rattle.signs.specs.Lists.{Below};
 ghost use Rattle.rounds.specs.Rows.{patterns as patternsOf, counts as countsOf, rowsWith, rowIf};
 ghost use Rattle.rounds.specs.Moments.{splits, allSplit, judged, byMoments};
-ghost use Rattle.rounds.specs.RoundEnd.{properRows};
+ghost use Rattle.rounds.specs.RoundEnd.{properRows, sum};
 ghost use Rattle.run_round_end.specs.Outcome.{Left, Ended};
-ghost use Rattle.run_round_end.specs.Steps.{withSign, signRows, properCounts, Solved as SolvedBy};
-use integers::within;
+ghost use Rattle.run_round_end.specs.Steps.{withSign, signRows, properCounts};
 use refusals::MOST_ROWS;
 use signs::below;
 use signs::power;
 use signs::rising;
-use solver::Solved;
-use solver::solve;
+use solver_recursion::solve_pair;
 
 // The number of rows after a round, or that no counts fit its answers.
 pub enum Next {
@@ -68,57 +68,43 @@ fn proper_rows(i: usize, patterns: &[u16], counts: &[u16]) -> bool
     proper_counts(counts)
 }
 
-// ---- the two solutions on the rows
-
-// Solves for the numbers on a rising list of patterns of i polynomials: whether there is a solution, and the solution in out.
-// With no polynomials the list holds at most the pattern 0, and has the same solution for one.
-fn solve_rows(i: usize, patterns: &[u16], numbers: &[i64], out: &mut [i64]) -> bool
-    requires { ⌜ (i < mostPolynomials) × (isRising (now patterns) ≡ true) × (isBelow (3 ^ i) (now patterns) ≡ true) × (length (now patterns) ≤ mostPoints) ⌝ }
-    requires { ⌜ (length (now numbers) ≡ length (now patterns)) × (length (now out) ≡ length (now patterns)) ⌝ }
-    ensures { λ r. ⌜ SolvedBy (solverOf i (now (patterns .entry)) (now (numbers .entry))) r (now (out .exit)) ⌝ }
-{
-    let mut s = i;
-    if s == 0 {
-        s = 1;
-    }
-    match solve(s, patterns, numbers, out) {
-        Solved::Found => true,
-        Solved::Refused(_) => false,
-    }
-}
-
 // ---- the counts of a row, extended by the three signs
 
 // Whether the three counts of a row of count d are whole numbers, 0 or more: d − g, (g + e) / 2 and (g − e) / 2.
-fn splits(d: u16, e: i64, g: i64) -> bool
+fn splits(d: u16, e: i16, g: i16) -> bool
+    requires { ⌜ (d ≤ mostPoints) × (natAbs e ≤ mostPoints) × (natAbs g ≤ mostPoints) ⌝ }
     ensures { λ r. ⌜ r ≡ splits d e g ⌝ }
 {
-    if (d as i64) < g {
+    if (d as i16) < g {
         return false;
     }
-    if !within(e, g) {
+    if g + e < 0 {
         return false;
     }
-    (g + e) as u64 % 2 == 0
+    if g < e {
+        return false;
+    }
+    (g + e) as u16 % 2 == 0
 }
 
 // The count of a row, extended by the sign of the digit t.
-fn count_with(t: u8, d: u16, e: i64, g: i64) -> u16
-    requires { ⌜ (t < 3) × (splits d e g ≡ true) ⌝ }
+fn count_with(t: u8, d: u16, e: i16, g: i16) -> u16
+    requires { ⌜ (t < 3) × (d ≤ mostPoints) × (splits d e g ≡ true) ⌝ }
     ensures { λ r. ⌜ r ≡ withSign t d e g ⌝ }
 {
     if t == 0 {
-        return (d as i64 - g) as u16;
+        return (d as i16 - g) as u16;
     }
     if t == 1 {
-        return ((g + e) as u64 / 2) as u16;
+        return (g + e) as u16 / 2;
     }
-    ((g - e) as u64 / 2) as u16
+    (g - e) as u16 / 2
 }
 
 // Whether every row's three counts are whole numbers, 0 or more.
-fn all_split(patterns: &[u16], counts: &[u16], es: &[i64], gs: &[i64]) -> bool
+fn all_split(patterns: &[u16], counts: &[u16], es: &[i16], gs: &[i16]) -> bool
     requires { ⌜ (length (now counts) ≡ length (now patterns)) × (length (now es) ≡ length (now patterns)) × (length (now gs) ≡ length (now patterns)) ⌝ }
+    requires { ⌜ (sum (now counts) ≤ mostPoints) × Within mostPoints (now es) × Within mostPoints (now gs) ⌝ }
     ensures { λ r. ⌜ r ≡ allSplit (rowsWith (now (patterns .entry)) (now (counts .entry))) (now (es .entry)) (now (gs .entry)) ⌝ }
 {
     let mut j = 0;
@@ -154,15 +140,15 @@ fn put_rows(
     w: u16,
     patterns: &[u16],
     counts: &[u16],
-    es: &[i64],
-    gs: &[i64],
+    es: &[i16],
+    gs: &[i16],
     new: &mut [u16],
     numbers: &mut [u16],
     k: usize,
 ) -> usize
     requires { ⌜ (t < 3) × (w ≤ 2187) × Below w (now patterns) ⌝ }
     requires { ⌜ (length (now counts) ≡ length (now patterns)) × (length (now es) ≡ length (now patterns)) × (length (now gs) ≡ length (now patterns)) ⌝ }
-    requires { ⌜ allSplit (rowsWith (now patterns) (now counts)) (now es) (now gs) ≡ true ⌝ }
+    requires { ⌜ (sum (now counts) ≤ mostPoints) × (allSplit (rowsWith (now patterns) (now counts)) (now es) (now gs) ≡ true) ⌝ }
     requires { ⌜ k + length (signRows w t (rowsWith (now patterns) (now counts)) (now es) (now gs)) ≤ length (now new) ⌝ }
     requires { ⌜ k + length (signRows w t (rowsWith (now patterns) (now counts)) (now es) (now gs)) ≤ length (now numbers) ⌝ }
     ensures { λ r. ⌜ r ≡ k + length (signRows w t (rowsWith (now (patterns .entry)) (now (counts .entry))) (now (es .entry)) (now (gs .entry))) ⌝ }
@@ -185,13 +171,14 @@ fn judge(
     i: usize,
     patterns: &[u16],
     counts: &[u16],
-    es: &[i64],
-    gs: &[i64],
+    es: &[i16],
+    gs: &[i16],
     new: &mut [u16],
     numbers: &mut [u16],
 ) -> Next
     requires { ⌜ (i < mostPolynomials) × (length (now counts) ≡ length (now patterns)) × (length (now es) ≡ length (now patterns)) × (length (now gs) ≡ length (now patterns)) ⌝ }
-    requires { ⌜ (properRows i (rowsWith (now patterns) (now counts)) ≡ true) × (mostPoints ≤ length (now new)) × (mostPoints ≤ length (now numbers)) ⌝ }
+    requires { ⌜ (properRows i (rowsWith (now patterns) (now counts)) ≡ true) × Within mostPoints (now es) × Within mostPoints (now gs) ⌝ }
+    requires { ⌜ (mostPoints ≤ length (now new)) × (mostPoints ≤ length (now numbers)) ⌝ }
     ensures { λ r. ⌜ Left (judged i (rowsWith (now (patterns .entry)) (now (counts .entry))) (now (es .entry)) (now (gs .entry))) r (now (new .exit)) (now (numbers .exit)) ⌝ }
 {
     if !all_split(patterns, counts, es, gs) {
@@ -204,59 +191,56 @@ fn judge(
     Next::Rows(minus)
 }
 
-// The same from the round's answers, with room for the two solutions: the first half of the answers has the one, the second the other.
+// The same from the round's answers, with room for the two solutions: the first half of the answers, x, has the one, the second, y, the other.
 fn by_moments(
     i: usize,
     patterns: &[u16],
     counts: &[u16],
-    answers: &[i64],
-    es: &mut [i64],
-    gs: &mut [i64],
+    x: &[i16],
+    y: &[i16],
+    es: &mut [i16],
+    gs: &mut [i16],
     new: &mut [u16],
     numbers: &mut [u16],
 ) -> Next
-    requires { ⌜ (i < mostPolynomials) × (length (now counts) ≡ length (now patterns)) × (length (now answers) ≡ 2 * length (now patterns)) ⌝ }
-    requires { ⌜ (length (now es) ≡ length (now patterns)) × (length (now gs) ≡ length (now patterns)) ⌝ }
+    requires { ⌜ (i < mostPolynomials) × (length (now counts) ≡ length (now patterns)) × (length (now x) ≡ length (now patterns)) × (length (now y) ≡ length (now patterns)) ⌝ }
+    requires { ⌜ Within mostPoints (now x) × Within mostPoints (now y) × (length (now es) ≡ length (now patterns)) × (length (now gs) ≡ length (now patterns)) ⌝ }
     requires { ⌜ (properRows i (rowsWith (now patterns) (now counts)) ≡ true) × (mostPoints ≤ length (now new)) × (mostPoints ≤ length (now numbers)) ⌝ }
-    ensures { λ r. ⌜ Left (byMoments i (rowsWith (now (patterns .entry)) (now (counts .entry))) (now (answers .entry))) r (now (new .exit)) (now (numbers .exit)) ⌝ }
+    ensures { λ r. ⌜ Left (byMoments i (rowsWith (now (patterns .entry)) (now (counts .entry))) (now (x .entry) ++ now (y .entry))) r (now (new .exit)) (now (numbers .exit)) ⌝ }
 {
-    let n = patterns.len();
-    if !solve_rows(i, patterns, &answers[..n], es) {
-        return Next::None;
-    }
-    if !solve_rows(i, patterns, &answers[n..], gs) {
+    if !solve_pair(patterns, i, x, y, es, gs) {
         return Next::None;
     }
     judge(i, patterns, counts, es, gs, new, numbers)
 }
 
-// The rows after round i + 1: from the rows before it, patterns and counts, and the round's answers. They are written to the front of the two
-// slices; where there are none, what those hold is left open.
+// The rows after round i + 1: from the rows before it, patterns and counts, and the two halves of the round's answers, x and y. They are written to
+// the front of the two slices; where there are none, what those hold is left open.
 pub fn next_rows(
     i: usize,
     patterns: &[u16],
     counts: &[u16],
-    answers: &[i64],
+    x: &[i16],
+    y: &[i16],
     new: &mut [u16],
     numbers: &mut [u16],
 ) -> Next
-    requires { ⌜ (i < mostPolynomials) × (length (now counts) ≡ length (now patterns)) × (mostPoints ≤ length (now new)) × (mostPoints ≤ length (now numbers)) ⌝ }
-    ensures { λ r. ⌜ Ended i (now (patterns .entry)) (now (counts .entry)) (now (answers .entry)) r (now (new .exit)) (now (numbers .exit)) ⌝ }
+    requires { ⌜ (i < mostPolynomials) × (length (now counts) ≡ length (now patterns)) × (length (now x) ≡ length (now patterns)) × (length (now y) ≡ length (now patterns)) ⌝ }
+    requires { ⌜ Within mostPoints (now x) × Within mostPoints (now y) × (mostPoints ≤ length (now new)) × (mostPoints ≤ length (now numbers)) ⌝ }
+    ensures { λ r. ⌜ Ended i (now (patterns .entry)) (now (counts .entry)) (now (x .entry) ++ now (y .entry)) r (now (new .exit)) (now (numbers .exit)) ⌝ }
 {
     if !proper_rows(i, patterns, counts) {
         return Next::None;
     }
     let n = patterns.len();
-    if answers.len() != 2 * n {
-        return Next::None;
-    }
-    let mut es = [0i64; MOST_ROWS];
-    let mut gs = [0i64; MOST_ROWS];
+    let mut es = [0i16; MOST_ROWS];
+    let mut gs = [0i16; MOST_ROWS];
     by_moments(
         i,
         patterns,
         counts,
-        answers,
+        x,
+        y,
         &mut es[..n],
         &mut gs[..n],
         new,

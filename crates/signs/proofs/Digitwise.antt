@@ -1,14 +1,13 @@
 -- The digits of a number as sets of polynomials, and the sign of a product on a pattern by them.
-use mathlib.Core.Path.{_≡_, refl, sym, ap, _∙_, subst}
+use mathlib.Core.Path.{_≡_, refl, sym, ap, _∙_}
 use mathlib.Core.Bool.{Bool, true, false, cond, _&&_}
-use Prim.Native.Nat.{ℕ, zero, suc, _+_, _*_, _-_, _/_, _%_, _^_, _<_, _≤_, min}
+use Prim.Native.Nat.{ℕ, zero, suc, _+_, _*_, _-_, _/_, _%_, _^_, _<_, _≤_}
 use native.Mathlib.Omega.{arith}
-use native.Mathlib.Nat.{zero-add, pow-suc, add-mul, mul-assoc, mul-comm, mul-left-comm, le-mul-of-pos-right, div-add-mod'}
+use native.Mathlib.Nat.{zero-add, one-mul, pow-suc, div-eq-of-lt, mod-eq-of-lt, pow-le-pow-right}
 use native.Mathlib.Decide.{ℕ-discrete}
-use lib.Pow.{pow-pos, pow-mono}
 use lib.Arith.{digits-div, digits-mod}
 use lib.Bits.{bitAnd, bitOr, and-block, or-block, and-lt, or-lt}
-use lib.Count.{ones, onesIn, ones-cat}
+use lib.Count.{ones, ones-cat}
 use lib.Dec.{eqb}
 use lib.IntN.{ℤ, pos, negsuc, negℤ, _*ℤ_, zero-*ℤ}
 use Rattle.integers.proofs.Tests.{eqb-same, eqb-other}
@@ -37,32 +36,27 @@ places-lt d (suc s) n = go (eqb (n / 3 ^ s) d) (places-lt d s (n % 3 ^ s))
 
 -- ---- one digit more, from the top
 
-shifted : (x b j : ℕ) → (2 * x + b) * 2 ^ j ≡ x * 2 ^ suc j + b * 2 ^ j
-shifted x b j = rw (add-mul, pow-suc 2 j) (ap (λ (y : ℕ). y + b * 2 ^ j) (simp (mul-assoc, mul-comm, mul-left-comm)))
-
-pub places-step : (d j rest x : ℕ) → (2 * x + bitOf (rest / 3 ^ j) d) * 2 ^ j + digitSet d j (rest % 3 ^ j)
-    ≡ x * 2 ^ suc j + digitSet d (suc j) rest
+-- the digit q is taken off, and r is left
+pub digit-taken : (d j n q r x : ℕ) → n / 3 ^ j ≡ q → n % 3 ^ j ≡ r
+    → x + bitOf q d * 2 ^ j + digitSet d j r ≡ x + digitSet d (suc j) n
 unfolding digitSet
-places-step d j rest x = omega (arith, shifted x (bitOf (rest / 3 ^ j) d) j)
+digit-taken d j n q r x e f = rw (e, f) (omega arith)
 
--- the digits passed are few bits
-pub few-bits : (d j x y s n : ℕ) → x * 2 ^ j + y ≡ digitSet d s n → s ≤ 8 → x < 256
-few-bits d j x y s n e h =
-    omega (arith, places-lt d s n, pow-mono h, le-mul-of-pos-right x (pow-pos j))
+-- bit j alone
+pub bit-alone : (j : ℕ) → j < 8 → 1 * 2 ^ j % 65536 ≡ 2 ^ j
+bit-alone j h = rw (one-mul (2 ^ j)) (mod-eq-of-lt (omega (arith, pow-le-pow-right {n = 2} (omega arith) {i = j} {j = 8} (omega arith))))
 
--- one turn of the loop that takes the digits off: b is the bit of the digit q, whose weight is p, and r is left
-pub digit-off : (d j rest x b p q r s n : ℕ) → 0 < j → b ≡ bitOf q d → q ≡ rest / p → p ≡ 3 ^ (j - 1) → q * p + r ≡ rest
-    → x * 2 ^ j + digitSet d j rest ≡ digitSet d s n → (2 * x + b) * 2 ^ (j - 1) + digitSet d (j - 1) r ≡ digitSet d s n
-digit-off d j rest x b p q r s n h eb eq ep er e =
-    let ej : j ≡ suc (j - 1) = omega arith in
-    let e′ : x * 2 ^ suc (j - 1) + digitSet d (suc (j - 1)) rest
-    ≡ digitSet d s n = subst (λ (k : ℕ). x * 2 ^ k + digitSet d k rest ≡ digitSet d s n) ej e in
-    let eq′ : q ≡ rest / 3 ^ (j - 1) = eq ∙ ap (λ (y : ℕ). rest / y) ep in
-    let er′ : r ≡ rest % 3 ^ (j - 1) = left-over (3 ^ (j - 1)) rest q r eq′ (subst (λ (y : ℕ). q * y + r ≡ rest) ep er) in
-    rw (eb, eq′, er′) (places-step d (j - 1) rest x ∙ e′)
-  where
-    left-over : (w n q r : ℕ) → q ≡ n / w → q * w + r ≡ n → r ≡ n % w
-    left-over w n q r eq er = omega (arith, div-add-mod' n w, ap (λ (y : ℕ). y * w) eq)
+-- a digit past the last is 0, and in no set
+one-more : (d i n : ℕ) → n < 3 ^ i → digitSet (suc d) (suc i) n ≡ digitSet (suc d) i n
+unfolding digitSet
+one-more d i n l = rw (div-eq-of-lt l, mod-eq-of-lt l, eqb-other 0 (suc d) (λ e. omega arith)) (omega arith)
+
+pub more-places : (d k s n : ℕ) → n < 3 ^ s → digitSet (suc d) (k + s) n ≡ digitSet (suc d) s n
+more-places d zero s n h = ap (λ (i : ℕ). digitSet (suc d) i n) (zero-add s)
+more-places d (suc k) s n h =
+    let l : n < 3 ^ (k + s) = omega (arith, pow-le-pow-right {n = 3} (omega arith) {i = s} {j = k + s} (omega arith)) in
+    let e : suc k + s ≡ suc (k + s) = omega arith in
+    ap (λ (i : ℕ). digitSet (suc d) i n) e ∙ one-more d (k + s) n l ∙ more-places d k s n h
 
 -- ---- the sign by bits
 

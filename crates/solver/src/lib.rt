@@ -16,7 +16,7 @@ use refusals::WRONG_LIST;
 use solutions::posed;
 use solver_moments::copy_small;
 use solver_moments::copy_wide;
-use solver_recursion::solve_list;
+use solver_recursion::solve_pair;
 
 // What a call answers: that the numbers are found, or document 01's number of the cause why they are not.
 pub enum Solved {
@@ -50,7 +50,8 @@ pub fn solve(s: usize, patterns: &[u16], numbers: &[i64], out: &mut [i64]) -> So
     solve_to(s, patterns, numbers, &mut x[..n], &mut v[..n], out)
 }
 
-// The same of a call that is well posed, where out has room, with room for the numbers asked and for those found, which are small.
+// The same of a call that is well posed, where out has room, with room for the numbers asked and for those found, which are small. The recursion solves
+// two systems at once: this one twice.
 fn solve_to(
     s: usize,
     patterns: &[u16],
@@ -68,7 +69,9 @@ fn solve_to(
     if !copy_small(numbers, x) {
         return Solved::Refused(NO_SOLUTION);
     }
-    if !solve_list(patterns, s, x, v) {
+    let n = patterns.len();
+    let mut w = [0i16; MOST_POINTS];
+    if !solve_pair(patterns, s, x, x, v, &mut w[..n]) {
         return Solved::Refused(NO_SOLUTION);
     }
     copy_wide(v, out);

@@ -1,17 +1,21 @@
 -- Laws of the definitions of specs/Moments.antt.
-use Prim.Native.Nat.{ℕ, zero, suc, _+_, _%_, _≤_, _<_}
+use Prim.Native.Nat.{ℕ, zero, suc, _+_, _*_, _%_, _≤_, _<_}
 use native.Mathlib.Nat.{add-comm}
 use native.Mathlib.Omega.{arith}
-use mathlib.Core.Path.{_≡_, refl, sym, _∙_}
-use mathlib.Core.Bool.{Bool, true, false, cond}
+use mathlib.Core.Path.{_≡_, refl, ap, ap₂}
+use mathlib.Core.Bool.{Bool, true, false, cond, not}
 use mathlib.Core.List.{List, [], _∷_}
 use borrow.Author.Tests.{le-leb}
 use lib.Dec.{eqb, leb}
-use lib.IntN.{ℤ, pos, natAbs, _+ℤ_, _-ℤ_}
+use lib.IntN.{ℤ, pos, negsuc, natAbs, _+ℤ_, _-ℤ_}
 use lib.ListN.{length, getD}
-use Rattle.integers.proofs.Parts.{int, parts, sum, dif}
+use lib.Signed.{shrZ}
+use Rattle.integers.specs.Half.{isEven}
+use Rattle.integers.proofs.Parts.{int, parts, side, sum, dif}
+use Rattle.integers.proofs.Abs.{abs-sum, abs-dif}
+use Rattle.integers.proofs.Halves.{even-true, even-false}
 use Rattle.adapted.specs.Split.{countOf}
-use Rattle.solver_moments.specs.Moments.{secondOf, thirdOf, rank, NumberOf}
+use Rattle.solver_moments.specs.Moments.{secondOf, thirdOf, rank, NumberOf, doubledOf, isOdd}
 
 -- ---- the bound of a moment
 
@@ -70,9 +74,35 @@ rank-few k (m ∷ ms) (suc j) = go (leb k (countOf m)) (rank-few k ms j)
     go true h = omega arith
     go false h = omega arith
 
--- ---- numbers from moments
+-- ---- numbers from moments: a number is one whose double is `doubledOf`
 
-pub number-unique : (c : ℕ) (d e g y z : ℤ) → NumberOf c d e g y → NumberOf c d e g z → y ≡ z
-number-unique zero d e g y z h k = h ∙ sym k
-number-unique (suc zero) d e g y z h k = omega (int, sum y y, sum z z)
-number-unique (suc (suc c)) d e g y z h k = omega (int, sum y y, sum z z)
+pub number-doubled : (c : ℕ) (d e g z : ℤ) → NumberOf c d e g z → z +ℤ z ≡ doubledOf c d e g
+unfolding doubledOf
+number-doubled zero d e g z h = ap₂ _+ℤ_ h h
+number-doubled (suc zero) d e g z h = h
+number-doubled (suc (suc c)) d e g z h = h
+
+pub doubled-number : (c : ℕ) (d e g z : ℤ) → z +ℤ z ≡ doubledOf c d e g → NumberOf c d e g z
+unfolding doubledOf
+doubled-number zero d e g z h = omega (int, sum z z, sum (d -ℤ g) (d -ℤ g))
+doubled-number (suc zero) d e g z h = h
+doubled-number (suc (suc c)) d e g z h = h
+
+pub abs-doubled : (c : ℕ) (d e g : ℤ) (n : ℕ) → natAbs d ≤ n → natAbs e ≤ n → natAbs g ≤ n → natAbs (doubledOf c d e g) ≤ 4 * n
+unfolding doubledOf
+abs-doubled zero d e g n hd he hg = omega (arith, abs-sum (d -ℤ g) (d -ℤ g), abs-dif d g)
+abs-doubled (suc zero) d e g n hd he hg = omega (arith, abs-sum g e)
+abs-doubled (suc (suc c)) d e g n hd he hg = omega (arith, abs-dif g e)
+
+-- ---- halves: of a number that is not odd the one rounded down is exact, and an odd number has none
+
+turned : (a b : Bool) → not a ≡ b → a ≡ not b
+turned true b e = ap not e
+turned false b e = ap not e
+
+pub even-half : (x : ℤ) → isOdd x ≡ false → shrZ x 2 +ℤ shrZ x 2 ≡ x
+even-half (pos n) t = omega (int, even-true (pos n) (turned (isEven (pos n)) false t))
+even-half (negsuc n) t = omega (int, even-true (negsuc n) (turned (isEven (negsuc n)) false t))
+
+pub odd-half : (x z : ℤ) → isOdd x ≡ true → z +ℤ z ≡ x → ⊥
+odd-half x z t h = even-false x (turned (isEven x) true t) (omega (int, parts x, side x, sum z z))

@@ -1,23 +1,28 @@
 -- What the loops of this crate keep from turn to turn, and that a turn keeps it.
-use Prim.Native.Nat.{ℕ, zero, suc, _+_, _-_, _/_, _≤_, _<_}
+use Prim.Native.Nat.{ℕ, zero, suc, _+_, _*_, _/_, _≤_, _<_}
 use native.Mathlib.Nat.{le-refl}
 use native.Mathlib.Numerals.{add-one}
 use native.Mathlib.Decide.{decLt}
 use native.Mathlib.Omega.{arith}
-use mathlib.Core.Path.{_≡_, refl, sym, ap, ap₂, _∙_}
-use mathlib.Core.Bool.{Bool, true, false, cond}
+use mathlib.Core.Path.{_≡_, refl, sym, ap, ap₂, subst, _∙_}
+use mathlib.Core.Bool.{Bool, true, false, cond, not, _&&_, _||_}
 use mathlib.Core.List.{List}
+use borrow.Author.Tests.{leb-true, leb-false}
 use lib.Dec.{leb}
 use lib.IntN.{ℤ, pos, natAbs, _+ℤ_, +ℤ-idr}
 use lib.ListN.{length, getD, take, set, length-set}
-use lib.Seq.{take-set-le, getD-set-same}
+use lib.Signed.{shrZ}
 use Rattle.integers.specs.Sums.{sumAbs, Within}
 use Rattle.integers.proofs.Abs.{abs-sum}
-use Rattle.integers.proofs.Sums.{sumAbs-step, sumAbs-take}
+use Rattle.integers.specs.Search.{anyBelow}
+use Rattle.integers.proofs.Halves.{abs-half}
+use Rattle.integers.proofs.Search.{some-none, some-which, some-false, left-false, right-false}
+use Rattle.integers.proofs.Sums.{sumAbs-none, sumAbs-step, sumAbs-all, sumAbs-take}
+use Rattle.signs.specs.Lists.{total}
 use Rattle.adapted.specs.Split.{countOf}
-use Rattle.solver_moments.specs.Moments.{rank, addend, putOne, Spread, NumberAt}
-use Rattle.integers.proofs.Stores.{each-more, untouched-more, same-front}
-use Rattle.solver_moments.proofs.Laws.{rank-zero, rank-suc, number-unique}
+use Rattle.solver_moments.specs.Moments.{rank, addend, putOne, Spread, doubledOf, isOdd, Fitting, CombinedBoth}
+use Rattle.integers.proofs.Stores.{each-more, untouched-more}
+use Rattle.solver_moments.proofs.Laws.{rank-zero, rank-suc, number-doubled, doubled-number, abs-doubled, even-half, odd-half}
 
 -- ---- put
 
@@ -96,31 +101,171 @@ putting-within k mark f v₀ v n j P w₀ w = record { at = λ h. go h (decLt h 
 pub putting-last : (k : ℕ) (mark : List ℕ) (f v₀ v : List ℤ) (n j : ℕ) → Putting k mark f v₀ v n j → length mark ≤ j → Spread k mark f v₀ v
 putting-last k mark f v₀ v n j P h = record { at = λ i q. P .done i (omega arith) }
 
--- ---- combine
+-- ---- combine_pair
 
-at-unique : (w : ℕ) (L at : List ℕ) (d e g : List ℤ) (k : ℕ) (y z : ℤ) → NumberAt w L at d e g k y → NumberAt w L at d e g k z → y ≡ z
-at-unique w L at d e g k y z h f =
-    number-unique (getD L k 0 / w) (getD d (getD at k 0) (pos 0)) (getD e (getD at k 0) (pos 0)) (getD g (getD at k 0) (pos 0)) y z h f
+-- the doubles x of numbers: the first k are halved to u, and s is the sum of their absolute values
+pub record Halving (x : ℕ → ℤ) (u₀ u : List ℤ) (s k : ℕ) : Type 0 where
+  pub long : length u ≡ length u₀
+  pub halves : (j : ℕ) → j < k → getD u j (pos 0) ≡ shrZ (x j) 2
+  pub summed : s ≡ total (λ j. natAbs (x j)) k
 
--- more than 64 already: no other numbers can do
-pub too-many : (w k left m : ℕ) (L at : List ℕ) (d e g out ws : List ℤ) (u : ℤ) → k < length L → length out ≡ length L
-    → length ws ≡ length L
-    → left + sumAbs (take k out) ≡ 64 → ((j : ℕ) → j < k → NumberAt w L at d e g j (getD out j (pos 0))) → NumberAt w L at d e g k u
-    → m ≡ natAbs u → left < m
-    → ((j : ℕ) → j < length L → NumberAt w L at d e g j (getD ws j (pos 0))) → sumAbs ws ≤ 64 → ⊥
-too-many w k left m L at d e g out ws u h lo lw s f fu em hm f′ t =
-    let same : take k out
-    ≡ take k ws = same-front (pos 0) k out ws (omega arith) (omega arith)
-    (λ j q. at-unique w L at d e g j (getD out j (pos 0)) (getD ws j (pos 0)) (f j q) (f′ j (omega arith))) in
-    let this : u ≡ getD ws k (pos 0) = at-unique w L at d e g k u (getD ws k (pos 0)) fu (f′ k h) in
-    omega (arith, sumAbs-step ws k (omega arith), sumAbs-take ws (k + 1), ap sumAbs same, ap natAbs this)
+halving-first : (x : ℕ → ℤ) (u : List ℤ) → Halving x u u 0 0
+unfolding total
+halving-first x u = record { long = refl; halves = λ j h. absurd (omega arith); summed = refl }
 
-pub left-next : (left m k : ℕ) (out : List ℤ) (u : ℤ) → left + sumAbs (take k out) ≡ 64 → k < length out → m ≡ natAbs u → m ≤ left
-    → (left - m) + sumAbs (take (k + 1) (set out k u)) ≡ 64
-left-next left m k out u s h e f =
+halving-next : (x : ℕ → ℤ) (u₀ u : List ℤ) (s k m : ℕ) (z : ℤ) → Halving x u₀ u s k → k < length u₀ → m ≡ natAbs (x k)
+    → z ≡ shrZ (x k) 2 → Halving x u₀ (set u k z) (s + m) (k + 1)
+unfolding total
+halving-next x u₀ u s k m z H h e f =
+    record {
+      long = length-set u k z ∙ H .long;
+      halves = each-more (pos 0) (λ j y. y ≡ shrZ (x j) 2) u k z (omega (arith, H .long)) f (H .halves);
+      summed = rw (add-one k) (ap₂ _+_ (H .summed) e);
+    }
+
+total-small : (x : ℕ → ℤ) (b : ℕ) → ((j : ℕ) → natAbs (x j) ≤ b) → (k : ℕ) → total (λ j. natAbs (x j)) k ≤ b * k
+unfolding total
+total-small x b h zero = omega arith
+total-small x b h (suc k) = omega (arith, total-small x b h k, h k)
+
+pub halving-small : (x : ℕ → ℤ) (u₀ u : List ℤ) (s k : ℕ) → Halving x u₀ u s k → ((j : ℕ) → natAbs (x j) ≤ 1024) → s ≤ 1024 * k
+halving-small x u₀ u s k H h = omega (arith, H .summed, total-small x 1024 h k)
+
+-- the sum of doubles is twice that of the numbers
+total-doubles : (x : ℕ → ℤ) (ws : List ℤ) (k : ℕ) → k ≤ length ws
+    → ((j : ℕ) → j < k → getD ws j (pos 0) +ℤ getD ws j (pos 0) ≡ x j)
+    → total (λ j. natAbs (x j)) k ≡ sumAbs (take k ws) + sumAbs (take k ws)
+unfolding total
+total-doubles x ws zero h f = omega (arith, sumAbs-none ws)
+total-doubles x ws (suc k) h f =
     omega (
       arith,
-      sumAbs-step (set out k u) k (rw (length-set out k u) h),
-      ap sumAbs (take-set-le k out k u (le-refl k)),
-      ap natAbs (getD-set-same out k u (pos 0) h),
+      total-doubles x ws k (omega arith) (λ j q. f j (omega arith)),
+      sumAbs-step ws k (omega arith),
+      ap (λ (i : ℕ). sumAbs (take i ws)) (add-one k),
+      abs-half (x k) (getD ws k (pos 0)) (f k (omega arith)),
     )
+
+-- both systems, and one of the doubles is odd or none is
+pub record Combining (x y : ℕ → ℤ) (u₀ v₀ u v : List ℤ) (s t : ℕ) (odd : Bool) (n k : ℕ) : Type 0 where
+  pub place : k ≤ n
+  pub one : Halving x u₀ u s k
+  pub other : Halving y v₀ v t k
+  pub odds : odd ≡ anyBelow (λ j. isOdd (x j) || isOdd (y j)) k
+
+pub combining-first : (x y : ℕ → ℤ) (u v : List ℤ) (n : ℕ) → Combining x y u v u v 0 0 false n 0
+combining-first x y u v n =
+    record {
+      place = omega arith;
+      one = halving-first x u;
+      other = halving-first y v;
+      odds = sym (some-none (λ j. isOdd (x j) || isOdd (y j)));
+    }
+
+pub combining-next : (x y : ℕ → ℤ) (u₀ v₀ u v : List ℤ) (s t : ℕ) (odd odd′ : Bool) (n k a b : ℕ) (p q : ℤ)
+    → Combining x y u₀ v₀ u v s t odd n k → k < n → length u₀ ≡ n → length v₀ ≡ n
+    → odd′ ≡ (odd || isOdd (x k)) || isOdd (y k)
+    → a ≡ natAbs (x k) → b ≡ natAbs (y k) → p ≡ shrZ (x k) 2 → q ≡ shrZ (y k) 2
+    → Combining x y u₀ v₀ (set u k p) (set v k q) (s + a) (t + b) odd′ n (k + 1)
+unfolding anyBelow
+combining-next x y u₀ v₀ u v s t odd odd′ n k a b p q C h lu lv eo ea eb ep eq =
+    record {
+      place = omega arith;
+      one = halving-next x u₀ u s k a p (C .one) (omega arith) ea ep;
+      other = halving-next y v₀ v t k b q (C .other) (omega arith) eb eq;
+      odds = eo ∙ grouped odd (isOdd (x k)) (isOdd (y k)) ∙ rw (add-one k, C .odds) refl;
+    }
+  where
+    grouped : (a b c : Bool) → (a || b) || c ≡ a || (b || c)
+    grouped true b c = refl
+    grouped false b c = refl
+
+-- twice the number of a pattern
+abbrev pub doubledAt : ℕ → List ℕ → List ℕ → List ℤ → List ℤ → List ℤ → ℕ → ℤ
+doubledAt w L at d e g k =
+    doubledOf (getD L k 0 / w) (getD d (getD at k 0) (pos 0)) (getD e (getD at k 0) (pos 0)) (getD g (getD at k 0) (pos 0))
+
+module _ (w : ℕ) (L at : List ℕ) (d e g : List ℤ) where
+  pub doubled-small : Within 256 d → Within 256 e → Within 256 g → (k : ℕ) → natAbs (doubledAt w L at d e g k) ≤ 1024
+  doubled-small wd we wg k =
+      abs-doubled (getD L k 0 / w) (getD d (getD at k 0) (pos 0)) (getD e (getD at k 0) (pos 0)) (getD g (getD at k 0) (pos 0)) 256
+      (wd .at (getD at k 0)) (we .at (getD at k 0)) (wg .at (getD at k 0))
+
+  -- what numbers that fit say of the doubles
+  fitting-doubled : (ws : List ℤ) → Fitting w L at d e g ws → (k : ℕ) → k < length L
+      → getD ws k (pos 0) +ℤ getD ws k (pos 0) ≡ doubledAt w L at d e g k
+  fitting-doubled ws F k h =
+      number-doubled (getD L k 0 / w) (getD d (getD at k 0) (pos 0)) (getD e (getD at k 0) (pos 0)) (getD g (getD at k 0) (pos 0))
+      (getD ws k (pos 0)) (F .numbers k h)
+
+  fitting-even : (ws : List ℤ) → Fitting w L at d e g ws → (k : ℕ) → k < length L → isOdd (doubledAt w L at d e g k) ≡ true → ⊥
+  fitting-even ws F k h t = odd-half (doubledAt w L at d e g k) (getD ws k (pos 0)) t (fitting-doubled ws F k h)
+
+  fitting-few : (ws : List ℤ) → Fitting w L at d e g ws → total (λ j. natAbs (doubledAt w L at d e g j)) (length L) ≤ 128
+  fitting-few ws F =
+      omega (
+        arith,
+        total-doubles (doubledAt w L at d e g) ws (length L) (omega (arith, F .one-each)) (fitting-doubled ws F),
+        sumAbs-take ws (length L),
+        F .small,
+      )
+
+  -- and what the doubles say of their halves
+  halving-last : (u₀ u : List ℤ) (s : ℕ) → Halving (doubledAt w L at d e g) u₀ u s (length L) → length u₀ ≡ length L
+      → ((k : ℕ) → k < length L → isOdd (doubledAt w L at d e g k) ≡ false) → s ≤ 128 → Fitting w L at d e g u
+  halving-last u₀ u s H l ev h =
+      record {
+        one-each = H .long ∙ l;
+        numbers =
+            λ k q. doubled-number (getD L k 0 / w) (getD d (getD at k 0) (pos 0)) (getD e (getD at k 0) (pos 0))
+            (getD g (getD at k 0) (pos 0)) (getD u k (pos 0)) (twice k q);
+        small =
+            omega (
+              arith,
+              total-doubles (doubledAt w L at d e g) u (length L) (omega (arith, H .long, l)) twice,
+              sumAbs-all u (length L) (omega (arith, H .long, l)),
+              H .summed,
+            );
+      }
+    where
+      twice : (k : ℕ) → k < length L → getD u k (pos 0) +ℤ getD u k (pos 0) ≡ doubledAt w L at d e g k
+      twice k q = rw (H .halves k q) (even-half (doubledAt w L at d e g k) (ev k q))
+
+module _ (w : ℕ) (L at : List ℕ) (d e g d₂ e₂ g₂ : List ℤ) where
+  abbrev x : ℕ → ℤ
+  x = doubledAt w L at d e g
+
+  abbrev y : ℕ → ℤ
+  y = doubledAt w L at d₂ e₂ g₂
+
+  pub combining-last : (u₀ v₀ u v : List ℤ) (s t : ℕ) (odd : Bool) (k : ℕ) → Combining x y u₀ v₀ u v s t odd (length L) k
+      → length L ≤ k → length u₀ ≡ length L → length v₀ ≡ length L → (b : Bool) → b ≡ not odd && (leb s 128 && leb t 128)
+      → CombinedBoth w L at d e g d₂ e₂ g₂ u v b
+  combining-last u₀ v₀ u v s t odd k C h lu lv b eb = rw eb (go odd (leb s 128) (leb t 128) refl refl refl)
+    where
+      either : ℕ → Bool
+      either j = isOdd (x j) || isOdd (y j)
+
+      end : Combining x y u₀ v₀ u v s t odd (length L) (length L)
+      end = subst (Combining x y u₀ v₀ u v s t odd (length L)) (omega (arith, C .place)) C
+
+      -- an odd double has no half
+      refused : (us vs : List ℤ) → Fitting w L at d e g us → Fitting w L at d₂ e₂ g₂ vs → (j : ℕ) → j < length L
+          → (p : Bool) → isOdd (x j) ≡ p → p || isOdd (y j) ≡ true → ⊥
+      refused us vs F G j q true t r = fitting-even w L at d e g us F j q t
+      refused us vs F G j q false t r = fitting-even w L at d₂ e₂ g₂ vs G j q r
+
+      go : (o p q : Bool) → odd ≡ o → leb s 128 ≡ p → leb t 128 ≡ q → CombinedBoth w L at d e g d₂ e₂ g₂ u v (not o && (p && q))
+      go true p q eo ep eq =
+          λ us vs F G.
+          let (j, l, r) = some-which either (length L) (sym (end .odds) ∙ eo) in
+          refused us vs F G j l (isOdd (x j)) refl r
+      go false false q eo ep eq = λ us vs F G. omega (arith, fitting-few w L at d e g us F, end .one .summed, leb-false s 128 ep)
+      go false true false eo ep eq =
+          λ us vs F G. omega (arith, fitting-few w L at d₂ e₂ g₂ vs G, end .other .summed, leb-false t 128 eq)
+      go false true true eo ep eq =
+          let even = some-false either (length L) (sym (end .odds) ∙ eo) in (
+            halving-last w L at d e g u₀ u s (end .one) lu (λ j q. left-false (isOdd (x j)) (isOdd (y j)) (even j q)) (leb-true s 128 ep),
+            halving-last w L at d₂ e₂ g₂ v₀ v t (end .other) lv (λ j q. right-false (isOdd (x j)) (isOdd (y j)) (even j q))
+                (leb-true t 128 eq),
+          )

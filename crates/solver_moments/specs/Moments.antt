@@ -5,7 +5,6 @@
 -- + less −, g of + and −. A mark says with which signs q stands: 1 for 0, 2 for +, 4 for −, added up.
 --
 --   mostMoment                  == 256, more than any moment's absolute value
---   AllWithin n x b             == b says whether each number of x is in −n .. n
 --   CopiedWithin n x o b        == b says whether each number of x is in −n .. n; if so, o holds them
 --   secondOf m d                == e of a pattern with one sign, from d; 0 with more, where it is not known
 --   thirdOf m d e               == g of a pattern with one or two signs, from d and e; 0 with three
@@ -15,13 +14,15 @@
 --   addend k m f j              == the number of f for mark j of m: those with at least k signs have one each, in order, the others 0
 --   Spread k m f v w            == w is v with f put back
 --   putOne b v j y              == v with y at j where the test b holds
---   Numbered c d e g h          == h is the number of a pattern with last digit c, or says that it is not whole
 --   NumberOf c d e g z          == z is the number of a pattern with last digit c, from the moments of its low part
 --   NumberAt w L at d e g k z   == z is the number of the pattern L[k], whose low part has its moments at at[k]
---   Combined w L at d e g out b == b says whether the patterns L have whole numbers whose absolute values add up to at most 64; if so, out
---                                  holds them
+--   doubledOf c d e g           == twice the number of a pattern with last digit c, from the moments of its low part
+--   isOdd x                     == the test that x is odd
+--   Fitting w L at d e g ws     == ws are the whole numbers of the patterns L, one each, and their absolute values add up to at most 64
+--   CombinedBoth w L at d e g d₂ e₂ g₂ u v b == b says whether the patterns L have such numbers from the moments d, e, g and from d₂, e₂,
+--                                  g₂; if so, u and v hold them
 use mathlib.Core.Path.{_≡_}
-use mathlib.Core.Bool.{Bool, true, false, cond}
+use mathlib.Core.Bool.{Bool, true, false, cond, not}
 use mathlib.Core.List.{List, [], _∷_}
 use Prim.Native.Nat.{ℕ, zero, suc, _+_, _*_, _/_, _%_, _<_, _≤_}
 use lib.Dec.{eqb, leb}
@@ -29,16 +30,11 @@ use lib.IntN.{ℤ, pos, _+ℤ_, _-ℤ_}
 use lib.ListN.{length, getD, set}
 use Rattle.refusals.specs.Limits.{mostPoints}
 use Rattle.integers.specs.Sums.{sumAbs, Within}
-use Rattle.integers.specs.declared.Half.{Half}
-use Rattle.integers.specs.declared.Half.the-variants.{Whole, Odd}
+use Rattle.integers.specs.Half.{isEven}
 use Rattle.adapted.specs.Split.{countOf}
 
 abbrev pub mostMoment : ℕ
 mostMoment = 4 * mostPoints
-
-abbrev pub AllWithin : ℕ → List ℤ → Bool → Type 0
-AllWithin n x true = Within n x
-AllWithin n x false = Within n x → ⊥
 
 abbrev pub CopiedWithin : ℕ → List ℤ → List ℤ → Bool → Type 0
 CopiedWithin n x o true = Within n x × (o ≡ x)
@@ -75,16 +71,23 @@ NumberOf zero d e g z = z ≡ d -ℤ g
 NumberOf (suc zero) d e g z = z +ℤ z ≡ g +ℤ e
 NumberOf (suc (suc c)) d e g z = z +ℤ z ≡ g -ℤ e
 
-abbrev pub Numbered : ℕ → ℤ → ℤ → ℤ → Half → Type 0
-Numbered c d e g (Whole z) = NumberOf c d e g z
-Numbered c d e g Odd = (z : ℤ) → NumberOf c d e g z → ⊥
-
 abbrev pub NumberAt : ℕ → List ℕ → List ℕ → List ℤ → List ℤ → List ℤ → ℕ → ℤ → Type 0
 NumberAt w L at d e g k z =
     NumberOf (getD L k 0 / w) (getD d (getD at k 0) (pos 0)) (getD e (getD at k 0) (pos 0)) (getD g (getD at k 0) (pos 0)) z
 
-abbrev pub Combined : ℕ → List ℕ → List ℕ → List ℤ → List ℤ → List ℤ → List ℤ → Bool → Type 0
-Combined w L at d e g out true = ((k : ℕ) → k < length L → NumberAt w L at d e g k (getD out k (pos 0))) × (sumAbs out ≤ mostPoints)
-Combined w L at d e g out false =
-    (ws : List ℤ) → length ws ≡ length L → ((k : ℕ) → k < length L → NumberAt w L at d e g k (getD ws k (pos 0)))
-    → sumAbs ws ≤ mostPoints → ⊥
+unfoldable pub doubledOf : ℕ → ℤ → ℤ → ℤ → ℤ
+doubledOf zero d e g = (d -ℤ g) +ℤ (d -ℤ g)
+doubledOf (suc zero) d e g = g +ℤ e
+doubledOf (suc (suc c)) d e g = g -ℤ e
+
+abbrev pub isOdd : ℤ → Bool
+isOdd x = not (isEven x)
+
+pub record Fitting (w : ℕ) (L at : List ℕ) (d e g ws : List ℤ) : Type 0 where
+  pub one-each : length ws ≡ length L
+  pub numbers : (k : ℕ) → k < length L → NumberAt w L at d e g k (getD ws k (pos 0))
+  pub small : sumAbs ws ≤ mostPoints
+
+abbrev pub CombinedBoth : ℕ → List ℕ → List ℕ → List ℤ → List ℤ → List ℤ → List ℤ → List ℤ → List ℤ → List ℤ → List ℤ → Bool → Type 0
+CombinedBoth w L at d e g d₂ e₂ g₂ u v true = Fitting w L at d e g u × Fitting w L at d₂ e₂ g₂ v
+CombinedBoth w L at d e g d₂ e₂ g₂ u v false = (us vs : List ℤ) → Fitting w L at d e g us → Fitting w L at d₂ e₂ g₂ vs → ⊥

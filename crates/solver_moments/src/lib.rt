@@ -1,45 +1,31 @@
 // The moments of patterns of i polynomials over the signs of the next one: those that are known, and the numbers that they give.
 // The functions are for the solver, whose calls show what they require; the definitions are in specs/.
 ghost use mathlib.Core.Path.{_≡_};
-ghost use mathlib.Core.Bool.{cond};
+ghost use mathlib.Core.Bool.{cond, _||_};
 ghost use mathlib.Core.List.{_++_};
-ghost use Prim.Native.Nat.{_+_, _*_, _≤_, _<_};
+ghost use Prim.Native.Nat.{_+_, _*_, _/_, _≤_, _<_};
 ghost use lib.Dec.{leb};
-ghost use lib.IntN.{pos, natAbs, _+ℤ_, _-ℤ_};
+ghost use lib.IntN.{pos, natAbs, _+ℤ_};
 ghost use lib.ListN.{length, getD, drop};
+ghost use lib.Signed.{shrZ};
 ghost use Rattle.refusals.specs.Limits.{mostPoints};
 ghost use Rattle.integers.specs.Sums.{Within};
 ghost use Rattle.signs.specs.Lists.{Below};
 ghost use Rattle.adapted.specs.Split.{countOf};
-ghost use Rattle.solver_moments.specs.Moments.{mostMoment, AllWithin, CopiedWithin, secondOf, thirdOf, Second, Third, rank, Spread, putOne, Numbered, Combined};
+ghost use Rattle.solver_moments.specs.Moments.{mostMoment, CopiedWithin, secondOf, thirdOf, Second, Third, rank, Spread, putOne, doubledOf, isOdd, CombinedBoth};
 use adapted::count;
-use integers::Half;
-use integers::halve;
 use integers::magnitude;
 use integers::minus;
 use integers::narrow;
 use integers::plus;
 use integers::wide;
 use refusals::MOST_POINTS;
-use signs::digit;
 
 // The largest absolute value that a number may have, and what the absolute values of a solution may add up to.
 const LIMIT: u64 = MOST_POINTS as u64;
 
-// Whether every number lies in −64 .. 64.
-pub fn all_small(x: &[i16]) -> bool
-    ensures { λ r. ⌜ AllWithin mostPoints (now (x .entry)) r ⌝ }
-{
-    let mut k = 0;
-    while k < x.len() {
-        let y = x[k];
-        if LIMIT < magnitude(wide(y)) {
-            return false;
-        }
-        k += 1;
-    }
-    true
-}
+// What the absolute values of the doubles may add up to.
+const DOUBLE: u32 = 2 * (LIMIT as u32);
 
 // The second moment of a pattern that stands with one sign, from its first and its mark; 0 where it stands with more.
 fn second_value(m: u8, d: i16) -> i16
@@ -170,54 +156,94 @@ pub fn put(mark: &[u8], k: usize, f: &[i16], v: &mut [i16])
     }
 }
 
-// The number of a pattern whose last digit is c from the moments of its low part, or that it is not whole.
-fn number(c: u16, d: i16, e: i16, g: i16) -> Half
-    requires { ⌜ (natAbs d ≤ mostMoment) × (natAbs e ≤ mostMoment) × (natAbs g ≤ mostMoment) ⌝ }
-    ensures { λ r. ⌜ Numbered c d e g r ⌝ }
+// Twice the number of the pattern q, whose last digit weighs w, from the moments of its low part at j.
+fn doubled(q: u16, w: u16, j: usize, d: &[i16], e: &[i16], g: &[i16]) -> i16
+    requires { ⌜ (q < 3 * w) × (j < length (now d)) × (length (now e) ≡ length (now d)) × (length (now g) ≡ length (now d)) ⌝ }
+    requires { ⌜ Within mostMoment (now d) × Within mostMoment (now e) × Within mostMoment (now g) ⌝ }
+    ensures { λ r. ⌜ r ≡ doubledOf (q / w) (getD (now (d .entry)) j (pos 0)) (getD (now (e .entry)) j (pos 0)) (getD (now (g .entry)) j (pos 0)) ⌝ }
 {
-    if c == 0 {
-        return Half::Whole(wide(minus(d, g)));
+    let x = d[j];
+    let y = e[j];
+    let z = g[j];
+    if q < w {
+        let n = minus(x, z);
+        return plus(n, n);
     }
-    if c == 1 {
-        halve(wide(plus(g, e)))
+    if q - w < w { plus(z, y) } else { minus(z, y) }
+}
+
+// The absolute value of x.
+fn absolute(x: i16) -> u32
+    requires { ⌜ natAbs x ≤ 4 * mostMoment ⌝ }
+    ensures { λ r. ⌜ r ≡ natAbs x ⌝ }
+{
+    if x < 0 {
+        let y = 0 - x;
+        y as u32
     } else {
-        halve(wide(minus(g, e)))
+        x as u32
     }
 }
 
-// Writes the numbers of the patterns l to out. False where one is not whole, or their absolute values add up to more than 64.
-pub fn combine(
+// Whether a number was odd so far, with one more.
+fn still_odd(odd: bool, x: i16) -> bool
+    ensures { λ r. ⌜ r ≡ (odd || isOdd x) ⌝ }
+{
+    if x % 2 == 0 {
+        return odd;
+    }
+    true
+}
+
+// Half of x, rounded down.
+fn half(x: i16) -> i16
+    ensures { λ r. ⌜ r ≡ shrZ x 2 ⌝ }
+{
+    x >> 1
+}
+
+// Writes the numbers of the patterns l to u and v, from the moments of two systems. False where one is not whole, or the absolute values of a
+// system add up to more than 64. The loop passes all patterns, with the doubles of their numbers, and what is wrong is said after it.
+pub fn combine_pair(
     l: &[u16],
     w: u16,
     at: &[u8],
     d: &[i16],
     e: &[i16],
     g: &[i16],
-    out: &mut [i16],
+    d2: &[i16],
+    e2: &[i16],
+    g2: &[i16],
+    u: &mut [i16],
+    v: &mut [i16],
 ) -> bool
-    requires { ⌜ Below (3 * w) (now l) × (length (now at) ≡ length (now l)) × (length (now out) ≡ length (now l)) × Below (length (now d)) (now at) ⌝ }
-    requires { ⌜ (length (now e) ≡ length (now d)) × (length (now g) ≡ length (now d)) × Within mostMoment (now d) × Within mostMoment (now e) × Within mostMoment (now g) ⌝ }
-    ensures { λ r. ⌜ Combined w (now (l .entry)) (now (at .entry)) (now (d .entry)) (now (e .entry)) (now (g .entry)) (now (out .exit)) r ⌝ }
+    requires { ⌜ Below (3 * w) (now l) × (length (now at) ≡ length (now l)) × (length (now u) ≡ length (now l)) × (length (now v) ≡ length (now l)) × Below (length (now d)) (now at) × (length (now l) ≤ mostPoints) ⌝ }
+    requires { ⌜ (length (now e) ≡ length (now d)) × (length (now g) ≡ length (now d)) × (length (now d2) ≡ length (now d)) × (length (now e2) ≡ length (now d)) × (length (now g2) ≡ length (now d)) × Within mostMoment (now d) × Within mostMoment (now e) × Within mostMoment (now g) × Within mostMoment (now d2) × Within mostMoment (now e2) × Within mostMoment (now g2) ⌝ }
+    ensures { λ r. ⌜ CombinedBoth w (now (l .entry)) (now (at .entry)) (now (d .entry)) (now (e .entry)) (now (g .entry)) (now (d2 .entry)) (now (e2 .entry)) (now (g2 .entry)) (now (u .exit)) (now (v .exit)) r ⌝ }
 {
-    let mut left = LIMIT;
+    let mut sum: u32 = 0;
+    let mut sum2: u32 = 0;
+    let mut odd = false;
     let mut k = 0;
     while k < l.len() {
         let j = at[k] as usize;
-        let x = d[j];
-        let y = e[j];
-        let z = g[j];
-        let h = number(digit(l[k], w), x, y, z);
-        let Half::Whole(u) = h else {
-            return false;
-        };
-        let m = magnitude(u);
-        if left < m {
-            return false;
-        }
-        left -= m;
-        let v = narrow(u);
-        out[k] = v;
+        let q = l[k];
+        let x = doubled(q, w, j, d, e, g);
+        let y = doubled(q, w, j, d2, e2, g2);
+        odd = still_odd(still_odd(odd, x), y);
+        sum += absolute(x);
+        sum2 += absolute(y);
+        let a = half(x);
+        u[k] = a;
+        let b = half(y);
+        v[k] = b;
         k += 1;
     }
-    true
+    if odd {
+        return false;
+    }
+    if DOUBLE < sum {
+        return false;
+    }
+    sum2 <= DOUBLE
 }

@@ -1,26 +1,25 @@
 -- Numbers on a list of patterns by their places, and numbers asked by their blocks: what the steps of the solver read and write, in the
 -- words of `part`, `lookup` and `size`.
-use mathlib.Core.Path.{_≡_, refl, sym, ap, ap₂, _∙_, subst}
-use mathlib.Core.Logic.{_≢_, _⊎_, inl, inr}
-use mathlib.Core.Bool.{Bool, true, false, cond}
-use mathlib.Core.List.{List, [], _∷_, _++_, map}
-use Prim.Native.Nat.{ℕ, zero, suc, _+_, _*_, _-_, _^_, _/_, _%_, min, _<_, _≤_}
+use mathlib.Core.Path.{_≡_, refl, sym, ap, _∙_}
+use mathlib.Core.Logic.{_≢_}
+use mathlib.Core.Bool.{cond}
+use mathlib.Core.List.{List, [], _∷_, _++_}
+use Prim.Native.Nat.{ℕ, zero, suc, _+_, _*_, _-_, _^_, _<_, _≤_}
 use native.Mathlib.Omega.{arith}
 use native.Mathlib.Decide.{ℕ-discrete, decLt}
-use lib.Dec.{eqb, leb}
-use lib.IntN.{ℤ, pos, negsuc, natAbs, subℕ, _+ℤ_, _-ℤ_, _*ℤ_}
+use lib.Dec.{eqb}
+use lib.IntN.{ℤ, pos, negsuc, natAbs, subℕ}
 use lib.ListN.{length, getD, take, drop}
 use lib.Seq.{ext-getD, drop-drop}
 use Rattle.integers.specs.Sums.{sumAbs}
 use Rattle.integers.proofs.Parts.{up, dn, int, parts}
-use Rattle.integers.proofs.Tests.{eqb-same, eqb-other, eq-cases}
+use Rattle.integers.proofs.Tests.{eqb-same, eqb-other}
 use Rattle.integers.proofs.Diff.{Diff, diff-sub, diff-same}
 use Rattle.signs.specs.Lists.{times, Below, Rising, shift}
-use Rattle.signs.specs.Signs.{weighted}
 use Rattle.signs.specs.Adapted.{restrictions, adapted}
 use Rattle.signs.proofs.Lists.{times-nil, times-same, times-other, times-cons, times-shift, shift-holds}
 use Rattle.signs.proofs.Blocks.{adapted-below}
-use Rattle.signs.proofs.Size.{total, total-mono, length-shift, as-many}
+use Rattle.signs.proofs.Size.{total, total-mono, length-shift}
 use Rattle.signs.proofs.Positions.{stands-at}
 use Rattle.solutions.specs.Solver.{Weight, lookup, values}
 use Rattle.signs.proofs.Weights.{part, part-first, part-later, part-empty, part-out, rising-fresh, diff-parts}

@@ -1,34 +1,33 @@
 -- The step of the solver's recursion: from the moments of the patterns left to the numbers of the list, and back.
 use mathlib.Core.Path.{_≡_, refl, sym, ap, ap₂, _∙_, subst}
-use mathlib.Core.Logic.{_≢_, _⊎_, inl, inr}
+use mathlib.Core.Logic.{_⊎_, inl, inr}
 use mathlib.Core.Bool.{Bool, true, false, cond}
 use mathlib.Core.List.{List, [], _∷_, _++_, map}
 use Prim.Native.Nat.{ℕ, zero, suc, _+_, _*_, _-_, _^_, _/_, _%_, min, _<_, _≤_}
 use native.Mathlib.Omega.{arith}
 use native.Mathlib.Nat.{le-refl, zero-add}
 use native.Mathlib.Numerals.{one-add}
-use native.Mathlib.Decide.{ℕ-discrete, decLt, decLe}
-use borrow.Author.Tests.{le-leb, lt-leb, leb-false}
-use lib.Dec.{eqb, leb}
-use lib.IntN.{ℤ, pos, negsuc, natAbs, subℕ, _+ℤ_, _-ℤ_, _*ℤ_}
+use native.Mathlib.Decide.{ℕ-discrete, decLt}
+use borrow.Author.Tests.{leb-false}
+use lib.Dec.{leb}
+use lib.IntN.{ℤ, pos, _+ℤ_, _-ℤ_}
 use lib.ListN.{length, getD, take, drop, length-append, length-drop}
-use lib.Seq.{ext-getD, length-take-le}
+use lib.Seq.{length-take-le}
 use Rattle.integers.specs.Sums.{sumAbs}
-use Rattle.integers.proofs.Parts.{up, dn, int, parts, side, sum, dif}
-use Rattle.integers.proofs.Tests.{eqb-same, eqb-other, bool-cases}
-use Rattle.integers.proofs.Diff.{Diff, diff-one}
+use Rattle.integers.proofs.Parts.{up, dn, int, sum, dif}
+use Rattle.integers.proofs.Diff.{diff-one}
 use Rattle.signs.specs.Lists.{times, Below, Rising, shift}
 use Rattle.signs.specs.Signs.{weighted}
 use Rattle.signs.specs.Adapted.{signsOf, restrictions, adapted}
 use Rattle.adapted.specs.Split.{marksOf, countOf, chosen}
-use Rattle.signs.proofs.Lists.{times-nil, times-same, times-other, restrictions-holds, restrictions-out}
+use Rattle.signs.proofs.Lists.{times-nil, times-other, restrictions-holds, restrictions-out}
 use Rattle.signs.proofs.Blocks.{adapted-below}
-use Rattle.signs.proofs.Digits.{split, digits, top, low}
-use Rattle.signs.proofs.Size.{as-many, below-under, length-shift}
+use Rattle.signs.proofs.Digits.{digits, top, low}
+use Rattle.signs.proofs.Size.{as-many, length-shift}
 use Rattle.signs.proofs.Extend.{restrictions-rising}
 use Rattle.signs.proofs.Positions.{stands-at, place-of, below-at}
-use Rattle.signs.proofs.Tallies.{fold, tally, plus}
-use Rattle.solver_moments.specs.Moments.{secondOf, thirdOf, Second, Third, rank, addend, Spread, NumberOf, NumberAt, Combined}
+use Rattle.signs.proofs.Tallies.{fold, plus}
+use Rattle.solver_moments.specs.Moments.{secondOf, thirdOf, Second, Third, rank, addend, Spread, NumberOf, NumberAt}
 use Rattle.solver_residuals.proofs.Gathering.{below-all}
 use Rattle.solutions.specs.Solution.{Posed, Solution}
 use Rattle.solutions.specs.Solver.{Weight, known1, known2, lookup, weightOf, values}
@@ -37,7 +36,7 @@ use Rattle.solver_residuals.proofs.Sums.{residuals-length}
 use Rattle.solver_recursion.specs.Steps.{Parted}
 use Rattle.signs.proofs.Weights.{part, part-out, weighted-tally, diff-parts}
 use Rattle.solutions.proofs.Lookup.{lookup-same, lookup-other}
-use Rattle.solutions.proofs.Bounds.{dist, size, fold-size}
+use Rattle.solutions.proofs.Bounds.{dist, fold-size}
 use Rattle.solutions.proofs.Solve.{Solves, solves-same, tally-diff, glue-0, glue-1, glue-2, restrictions-none, down-0, sum-is, kp, kn, vdp}
 use Rattle.solutions.proofs.Solve.{vdn, down-1, Vp, Vn, lp, ln, tdp, tdn, difference-is, down-2, Tp, Tn, doubled, w₀, w₀′, w₁, w₁′, w₂, w₂′}
 use Rattle.solutions.proofs.Solve.{p⁺, n⁺, balance-1, solution}

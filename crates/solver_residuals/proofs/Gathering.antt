@@ -1,17 +1,18 @@
 -- What the loops of this crate keep from turn to turn, and what they leave.
-use Prim.Native.Nat.{ℕ, zero, suc, _+_, _^_, _≤_, _<_}
-use native.Mathlib.Nat.{add-zero, le-refl}
+use Prim.Native.Nat.{ℕ, suc, _+_, _*_, _^_, _≤_, _<_}
+use native.Mathlib.Nat.{add-zero}
 use native.Mathlib.Numerals.{add-one}
 use native.Mathlib.Omega.{arith}
 use mathlib.Core.Path.{_≡_, refl, sym, ap, ap₂, _∙_}
 use mathlib.Core.Bool.{Bool, true, false, cond}
-use mathlib.Core.List.{List, [], _∷_, _++_}
-use borrow.Author.Tests.{ltb-false}
+use mathlib.Core.List.{List, [], _∷_, _++_, append-nil}
+use borrow.Author.Tests.{leb-false}
 use lib.IntN.{ℤ, pos, natAbs, _+ℤ_, _-ℤ_, _*ℤ_, +ℤ-idl, +ℤ-idr, +ℤ-assoc, *ℤ-zero}
 use lib.ListN.{length, getD, take, drop, set, length-set, drop-of-length-le, List·getD-append}
-use lib.Seq.{sets, length-sets, take-all, take-suc-set, length-take-le, getD-take}
+use lib.Seq.{sets, take-suc-set, length-take-le, getD-take}
+use Rattle.refusals.specs.Limits.{mostPoints}
 use Rattle.integers.specs.Sums.{Within}
-use Rattle.integers.proofs.Abs.{abs-zero}
+use Rattle.integers.proofs.Abs.{abs-sum, abs-*-le}
 use Rattle.signs.specs.Lists.{times, Below, Rising, shift}
 use Rattle.signs.specs.Signs.{sign, weighted}
 use Rattle.signs.specs.Bits.{digitSet, signBits}
@@ -25,8 +26,17 @@ use Rattle.signs.proofs.Positions.{below-at}
 use Rattle.solver_moments.specs.Moments.{putOne}
 use Rattle.integers.proofs.Sums.{within-of}
 use Rattle.integers.proofs.Stores.{each-more}
-use Rattle.solver_residuals.specs.Residuals.{residuals, other0, bitSum, digitSum, Subtracted, Gathered}
-use Rattle.solver_residuals.proofs.Sums.{sum-snoc, sum-none, sum-next, weighted-next, residuals-is}
+use Rattle.solver_residuals.specs.Residuals.{
+  residuals,
+  isSmall,
+  bitSum,
+  digitSum,
+  Subtracted,
+  Gathered,
+  SubtractedBoth,
+  ResidualsBoth,
+}
+use Rattle.solver_residuals.proofs.Sums.{sign-small, sum-snoc, sum-none, sum-next, weighted-next, residuals-is, residuals-at}
 
 -- ---- gather
 
@@ -52,17 +62,19 @@ gathering-first i l v o t u =
       small = λ h q. absurd (omega arith);
     }
 
-pub gathering-next : (i : ℕ) (l : List ℕ) (v : List ℤ) (o t o′ t′ : List ℕ) (u u′ : List ℤ) (lo lt lu n n′ j : ℕ)
+-- a pattern more: written where the test b holds, which it does where the number is not 0
+pub gathering-next : (i : ℕ) (l : List ℕ) (v : List ℤ) (o t o′ t′ : List ℕ) (u u′ : List ℤ) (lo lt lu n n′ j : ℕ) (b : Bool)
     → Gathering i l v o t u lo lt lu n j
     → j < length l → length v ≡ length l → Below (3 ^ i) l → Within 256 v → length l ≤ lo → length l ≤ lt → length l ≤ lu
-    → n′ ≡ n + cond (other0 (getD v j (pos 0))) 1 0
-    → o′ ≡ putOne (other0 (getD v j (pos 0))) o n (digitSet 1 i (getD l j 0))
-    → t′ ≡ putOne (other0 (getD v j (pos 0))) t n (digitSet 2 i (getD l j 0))
-    → u′ ≡ putOne (other0 (getD v j (pos 0))) u n (getD v j (pos 0))
+    → (b ≡ false → getD v j (pos 0) ≡ pos 0)
+    → n′ ≡ n + cond b 1 0
+    → o′ ≡ putOne b o n (digitSet 1 i (getD l j 0))
+    → t′ ≡ putOne b t n (digitSet 2 i (getD l j 0))
+    → u′ ≡ putOne b u n (getD v j (pos 0))
     → Gathering i l v o′ t′ u′ lo lt lu n′ (j + 1)
-gathering-next i l v o t o′ t′ u u′ lo lt lu n n′ j G h e b w ho ht hu en eo et eu = go (other0 (getD v j (pos 0))) refl
+gathering-next i l v o t o′ t′ u u′ lo lt lu n n′ j b G h e be w ho ht hu z en eo et eu = go b refl
   where
-    go : (b : Bool) → other0 (getD v j (pos 0)) ≡ b → Gathering i l v o′ t′ u′ lo lt lu n′ (j + 1)
+    go : (c : Bool) → b ≡ c → Gathering i l v o′ t′ u′ lo lt lu n′ (j + 1)
     go true k =
         let no : o′ ≡ set o n (digitSet 1 i (getD l j 0)) = eo ∙ rw k refl in
         let nt : t′ ≡ set t n (digitSet 2 i (getD l j 0)) = et ∙ rw k refl in
@@ -102,7 +114,7 @@ gathering-next i l v o t o′ t′ u u′ lo lt lu n n′ j G h e b w ho ht hu e
             (take n o) (take n t) (take n u)
             (length-take-le n o (omega (arith, G .few, G .long-o)) ∙ sym (length-take-le n u (omega (arith, G .few, G .long-u))))
             (length-take-le n t (omega (arith, G .few, G .long-t)) ∙ sym (length-take-le n u (omega (arith, G .few, G .long-u))))
-            ∙ ap (λ (z : ℤ). S +ℤ (z *ℤ (getD v j (pos 0)))) (sign-bits i α (getD l j 0) a (below-at (3 ^ i) l b j h)))
+            ∙ ap (λ (z : ℤ). S +ℤ (z *ℤ (getD v j (pos 0)))) (sign-bits i α (getD l j 0) a (below-at (3 ^ i) l be j h)))
             ∙ +ℤ-assoc S (s *ℤ (getD v j (pos 0))) (weighted i (drop (suc j) l) (drop (suc j) v) α)
             ∙ ap (λ (z : ℤ). S +ℤ z) (sym (weighted-next i α j l v h e))
             ∙ G .sums α a
@@ -121,15 +133,12 @@ gathering-next i l v o t o′ t′ u u′ lo lt lu n n′ j G h e b w ho ht hu e
           small = rw (nn, nu) (G .small);
         }
       where
-        none : (getD v j (pos 0)) ≡ pos 0
-        none = abs-zero (getD v j (pos 0)) (omega (arith, ltb-false 0 (natAbs (getD v j (pos 0))) k))
-
         without : (α : ℕ) → α < 3 ^ i → digitSum i α (take n o) (take n t) (take n u) +ℤ weighted i (drop (suc j) l) (drop (suc j) v) α
             ≡ weighted i l v α
         without α a =
             ap (λ (z : ℤ). digitSum i α (take n o) (take n t) (take n u) +ℤ z)
             (sym (weighted-next i α j l v h e
-            ∙ ap (λ (z : ℤ). (sign i α (getD l j 0) *ℤ z) +ℤ weighted i (drop (suc j) l) (drop (suc j) v) α) none
+            ∙ ap (λ (y : ℤ). (sign i α (getD l j 0) *ℤ y) +ℤ weighted i (drop (suc j) l) (drop (suc j) v) α) (z k)
             ∙ ap (λ (z : ℤ). z +ℤ weighted i (drop (suc j) l) (drop (suc j) v) α) (*ℤ-zero (sign i α (getD l j 0)))
             ∙ +ℤ-idl (weighted i (drop (suc j) l) (drop (suc j) v) α)))
             ∙ G .sums α a
@@ -149,28 +158,51 @@ gathering-last i l v o t u lo lt lu n j G h =
       small = G .small;
     }
 
--- ---- query
+-- ---- queries
 
-pub query-next : (a₁ a₂ j : ℕ) (o t : List ℕ) (v : List ℤ) (x y total : ℤ) → j < length v → length o ≡ length v → length t ≡ length v
-    → x +ℤ bitSum a₁ a₂ (drop j o) (drop j t) (drop j v) ≡ total
-    → y ≡ x +ℤ (signBits a₁ a₂ (getD o j 0) (getD t j 0) *ℤ getD v j (pos 0))
-    → y +ℤ bitSum a₁ a₂ (drop (j + 1) o) (drop (j + 1) t) (drop (j + 1) v) ≡ total
-query-next a₁ a₂ j o t v x y total h e f s n =
-    rw (add-one j, n) (+ℤ-assoc x (signBits a₁ a₂ (getD o j 0) (getD t j 0) *ℤ getD v j (pos 0))
-    (bitSum a₁ a₂ (drop (suc j) o) (drop (suc j) t) (drop (suc j) v))
-    ∙ ap (λ (z : ℤ). x +ℤ z) (sym (sum-next a₁ a₂ j o t v h e f)) ∙ s)
+-- x is the sum of the first j numbers of u, each times its sign
+pub record Summing (a₁ a₂ : ℕ) (o t : List ℕ) (u : List ℤ) (x : ℤ) (j : ℕ) : Type 0 where
+  pub sums : x +ℤ bitSum a₁ a₂ (drop j o) (drop j t) (drop j u) ≡ bitSum a₁ a₂ o t u
+  pub small : natAbs x ≤ 256 * j
 
-pub query-last : (a₁ a₂ j : ℕ) (o t : List ℕ) (v : List ℤ) (x total : ℤ) → length o ≤ j
-    → x +ℤ bitSum a₁ a₂ (drop j o) (drop j t) (drop j v) ≡ total → x ≡ total
+pub summing-first : (a₁ a₂ : ℕ) (o t : List ℕ) (u : List ℤ) → Summing a₁ a₂ o t u (pos 0) 0
+summing-first a₁ a₂ o t u = record { sums = +ℤ-idl (bitSum a₁ a₂ o t u); small = omega arith }
+
+pub addend-small : (a₁ a₂ p q : ℕ) (y : ℤ) → natAbs y ≤ 256 → natAbs (signBits a₁ a₂ p q *ℤ y) ≤ 256
+addend-small a₁ a₂ p q y h = omega (arith, abs-*-le (signBits a₁ a₂ p q) y {m = 1} {n = 256} (sign-small a₁ a₂ p q) h)
+
+pub summing-next : (a₁ a₂ j : ℕ) (o t : List ℕ) (u : List ℤ) (x y : ℤ) → j < length u → length o ≡ length u → length t ≡ length u
+    → Within 256 u → Summing a₁ a₂ o t u x j → y ≡ x +ℤ (signBits a₁ a₂ (getD o j 0) (getD t j 0) *ℤ getD u j (pos 0))
+    → Summing a₁ a₂ o t u y (j + 1)
+summing-next a₁ a₂ j o t u x y h e f w S n =
+    let p = signBits a₁ a₂ (getD o j 0) (getD t j 0) *ℤ getD u j (pos 0) in
+    record {
+      sums = rw (add-one j, n) (+ℤ-assoc x p (bitSum a₁ a₂ (drop (suc j) o) (drop (suc j) t) (drop (suc j) u))
+          ∙ ap (λ (z : ℤ). x +ℤ z) (sym (sum-next a₁ a₂ j o t u h e f)) ∙ S .sums);
+      small = rw n (omega (arith, abs-sum x p, S .small, addend-small a₁ a₂ (getD o j 0) (getD t j 0) (getD u j (pos 0)) (w .at j)));
+    }
+
+pub summing-last : (a₁ a₂ j : ℕ) (o t : List ℕ) (u : List ℤ) (x : ℤ) → length o ≤ j → Summing a₁ a₂ o t u x j → x ≡ bitSum a₁ a₂ o t u
 unfolding bitSum
-query-last a₁ a₂ j o t v x total h s = sym (+ℤ-idr x) ∙ ap (λ (z : ℤ). x +ℤ z) (sym nothing) ∙ s
+summing-last a₁ a₂ j o t u x h S = sym (+ℤ-idr x) ∙ ap (λ (z : ℤ). x +ℤ z) (sym nothing) ∙ S .sums
   where
-    nothing : bitSum a₁ a₂ (drop j o) (drop j t) (drop j v) ≡ pos 0
+    nothing : bitSum a₁ a₂ (drop j o) (drop j t) (drop j u) ≡ pos 0
     nothing = rw (drop-of-length-le o h) refl
+
+-- ---- what remains of one number
+
+-- one that is too large: no others are small
+pub not-small : (i k : ℕ) (a o t : List ℕ) (u x r : List ℤ) (z : ℤ) → k < length a → z ≡ getD x k (pos 0) -ℤ digitSum i (getD a k 0) o t u
+    → isSmall z ≡ false → Subtracted i a o t u x r → Within mostPoints r → ⊥
+not-small i k a o t u x r z h e f S w =
+    omega (arith, leb-false (natAbs z) mostPoints f, w .at k, ap natAbs (S .at k h ∙ sym e))
 
 -- ---- remain
 
 -- nothing is known: the numbers are as they were
+pub copied-whole : (x r₀ r : List ℤ) → length r₀ ≡ length x → r ≡ x ++ drop (length x) r₀ → r ≡ x
+copied-whole x r₀ r e h = h ∙ rw (drop-of-length-le r₀ {i = length x} (omega arith)) (append-nil x)
+
 pub copied-rests : (i : ℕ) (a o t : List ℕ) (v x r₀ r : List ℤ) → length o ≡ 0 → length a ≡ length x → r ≡ x ++ drop (length x) r₀
     → Subtracted i a o t v x r
 unfolding bitSum
@@ -183,28 +215,24 @@ unfolding shift
 shift-zero [] = refl
 shift-zero (x ∷ l) = ap₂ _∷_ (add-zero x) (shift-zero l)
 
--- a list that is written whole
-pub sets-whole : (xs l : List ℕ) → length xs ≡ length l → sets l 0 xs ≡ xs
-sets-whole xs l e =
-    sym (take-all (length l) (sets l 0 xs) (rw (length-sets l 0 xs) (le-refl (length l))))
-    ∙ take-sets xs l (length l) (sym e) (le-refl (length l))
-
 pub below-all : (b : ℕ) (l : List ℕ) → ((q : ℕ) → 0 < times q l → q < b) → Below b l
 unfolding Below
 below-all b [] f = tt
 below-all b (x ∷ l) f = (f x (omega (arith, times-same x l)), below-all b l (λ q h. f q (omega (arith, times-cons q x l))))
 
-pub adapted-list : (i : ℕ) (l a a′ : List ℕ) → Rising l → Below (3 ^ i) l → length a ≡ length l → a′ ≡ sets a 0 (shift 0 (adapted i l))
-    → a′ ≡ adapted i l
-adapted-list i l a a′ r b e f = f ∙ rw (shift-zero (adapted i l)) (sets-whole (adapted i l) a (as-many i l r b ∙ sym e))
+-- the adapted list at the front of an array
+pub adapted-front : (i : ℕ) (l a a′ : List ℕ) → Rising l → Below (3 ^ i) l → length l ≤ length a → a′ ≡ sets a 0 (shift 0 (adapted i l))
+    → take (length l) a′ ≡ adapted i l
+adapted-front i l a a′ r b h f =
+    rw (f, shift-zero (adapted i l)) (take-sets (adapted i l) a (length l) (sym (as-many i l r b)) h)
 
 pub adapted-small : (i : ℕ) (l : List ℕ) → Below (3 ^ i) (adapted i l)
 adapted-small i l = below-all (3 ^ i) (adapted i l) (λ q h. adapted-below i q l h)
 
--- ---- left_over
+-- ---- the residuals
 
--- what the code works out residuals
-pub left-over : (i c : ℕ) (l′ l o t : List ℕ) (v u x r : List ℤ) → Rising l′ → Below (3 ^ i) l′ → length x ≡ length l′
+-- what the code works out is what remains
+left-over : (i c : ℕ) (l′ l o t : List ℕ) (v u x r : List ℤ) → Rising l′ → Below (3 ^ i) l′ → length x ≡ length l′
     → length r ≡ length l′
     → Gathered i l v c o t u → Subtracted i (adapted i l′) (take c o) (take c t) (take c u) x r → r ≡ residuals i l v (adapted i l′) x
 left-over i c l′ l o t v u x r ri be lx lr G R =
@@ -212,6 +240,27 @@ left-over i c l′ l o t v u x r ri be lx lr G R =
     residuals-is i l v (adapted i l′) x r (lx ∙ sym n) (lr ∙ sym n)
     (λ k h. R .at k h ∙ ap (λ (z : ℤ). getD x k (pos 0) -ℤ z)
     (G .sums (getD (adapted i l′) k 0) (below-at (3 ^ i) (adapted i l′) (adapted-small i l′) k h)))
+
+-- and what remains is what the code works out
+subtracted : (i c : ℕ) (l′ l o t : List ℕ) (v u x : List ℤ) → Rising l′ → Below (3 ^ i) l′ → length x ≡ length l′ → Gathered i l v c o t u
+    → Subtracted i (adapted i l′) (take c o) (take c t) (take c u) x (residuals i l v (adapted i l′) x)
+subtracted i c l′ l o t v u x ri be lx G =
+    record {
+      at = λ k h. residuals-at i l v (adapted i l′) x k (lx ∙ sym (as-many i l′ ri be)) h
+          ∙ ap (λ (z : ℤ). getD x k (pos 0) -ℤ z)
+          (sym (G .sums (getD (adapted i l′) k 0) (below-at (3 ^ i) (adapted i l′) (adapted-small i l′) k h)));
+    }
+
+pub left-over-both : (i c : ℕ) (l′ l o t : List ℕ) (v w p q x y r s : List ℤ) (b : Bool) → Rising l′ → Below (3 ^ i) l′
+    → length x ≡ length l′ → length y ≡ length l′ → length r ≡ length l′ → length s ≡ length l′
+    → Gathered i l v c o t p → Gathered i l w c o t q
+    → SubtractedBoth i (adapted i l′) (take c o) (take c t) (take c p) (take c q) x y r s b
+    → ResidualsBoth i l v w (adapted i l′) x y r s b
+left-over-both i c l′ l o t v w p q x y r s true ri be lx ly lr ls G H (S, T, wr, ws) =
+    (left-over i c l′ l o t v p x r ri be lx lr G S, left-over i c l′ l o t w q y s ri be ly ls H T, wr, ws)
+left-over-both i c l′ l o t v w p q x y r s false ri be lx ly lr ls G H f =
+    f (residuals i l v (adapted i l′) x) (residuals i l w (adapted i l′) y) (subtracted i c l′ l o t v p x ri be lx G)
+    (subtracted i c l′ l o t w q y ri be ly H)
 
 pub gathered-within : (i n : ℕ) (l : List ℕ) (v : List ℤ) (o t : List ℕ) (u : List ℤ) → Gathered i l v n o t u → n ≤ length u
     → Within 256 (take n u)

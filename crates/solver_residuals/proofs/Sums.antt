@@ -1,14 +1,14 @@
 -- Laws of the definitions of specs/Remains.antt.
 use Prim.Native.Nat.{ℕ, zero, suc, _%_, _≤_, _<_}
-use native.Mathlib.Decide.{decLt, ℕ-discrete}
+use native.Mathlib.Decide.{decLt}
 use native.Mathlib.Omega.{arith}
 use mathlib.Core.Path.{_≡_, refl, sym, ap, ap₂, _∙_}
-use mathlib.Core.Bool.{Bool, true, false, cond}
+use mathlib.Core.Bool.{Bool, true, false, cond, _||_, true≢false}
 use mathlib.Core.List.{List, [], _∷_, _++_}
-use borrow.Author.Tests.{lt-ltb}
+use borrow.Author.Tests.{lt-ltb, ltb-false}
 use lib.Bits.{bitAnd, bitOr}
 use lib.Count.{ones}
-use lib.Dec.{eqb, ltb}
+use lib.Dec.{eqb}
 use lib.IntN.{ℤ, pos, negsuc, natAbs, _+ℤ_, _-ℤ_, _*ℤ_, +ℤ-idl, +ℤ-idr, +ℤ-assoc}
 use lib.ListN.{length, getD, drop}
 use lib.Seq.{drop-cons}
@@ -18,7 +18,7 @@ use Rattle.integers.proofs.I16.{back}
 use Rattle.integers.proofs.Abs.{abs-zero}
 use Rattle.signs.specs.Signs.{sign, weighted}
 use Rattle.signs.specs.Bits.{signBits}
-use Rattle.solver_residuals.specs.Residuals.{residuals, other0, bitSum}
+use Rattle.solver_residuals.specs.Residuals.{residuals, other0, either0, bitSum}
 
 -- ---- sums
 
@@ -74,6 +74,26 @@ other-bits x h = go (decLt 0 (natAbs x))
     go (yes p) = lt-ltb 0 (natAbs x) p
     go (no p) = absurd (h (ap (ofZ w16) (abs-zero x (omega arith))))
 
+-- where neither counts both are 0
+none-is : (x : ℤ) → other0 x ≡ false → x ≡ pos 0
+none-is x e = abs-zero x (omega (arith, ltb-false 0 (natAbs x) e))
+
+pub neither-0 : (x y : ℤ) → either0 x y ≡ false → x ≡ pos 0
+unfolding either0
+neither-0 x y = go (other0 x) refl
+  where
+    go : (b : Bool) → other0 x ≡ b → (b || other0 y) ≡ false → x ≡ pos 0
+    go true e h = absurd (true≢false h)
+    go false e h = none-is x e
+
+pub neither-1 : (x y : ℤ) → either0 x y ≡ false → y ≡ pos 0
+unfolding either0
+neither-1 x y = go (other0 x)
+  where
+    go : (b : Bool) → (b || other0 y) ≡ false → y ≡ pos 0
+    go true h = absurd (true≢false h)
+    go false h = none-is y h
+
 -- ---- what residuals of the numbers asked
 
 pub residuals-length : (i : ℕ) (l : List ℕ) (v : List ℤ) (A : List ℕ) (x : List ℤ) → length x ≡ length A
@@ -92,3 +112,11 @@ residuals-is i l v (α ∷ A) [] r e f g = absurd (omega arith)
 residuals-is i l v (α ∷ A) (y ∷ x) [] e f g = absurd (omega arith)
 residuals-is i l v (α ∷ A) (y ∷ x) (z ∷ r) e f g =
     ap₂ _∷_ (g 0 (omega arith)) (residuals-is i l v A x r (omega arith) (omega arith) (λ k h. g (suc k) (omega arith)))
+
+pub residuals-at : (i : ℕ) (l : List ℕ) (v : List ℤ) (A : List ℕ) (x : List ℤ) (k : ℕ) → length x ≡ length A → k < length A
+    → getD (residuals i l v A x) k (pos 0) ≡ getD x k (pos 0) -ℤ weighted i l v (getD A k 0)
+unfolding residuals
+residuals-at i l v [] x k e h = absurd (omega arith)
+residuals-at i l v (α ∷ A) [] k e h = absurd (omega arith)
+residuals-at i l v (α ∷ A) (y ∷ x) zero e h = refl
+residuals-at i l v (α ∷ A) (y ∷ x) (suc k) e h = residuals-at i l v A x k (omega arith) (omega arith)

@@ -23,11 +23,11 @@ use determination::Copied;
 use determination::Fetched;
 use determination::Run;
 use determination::Step;
-use determination::answer;
+use determination::answer_lent;
 use determination::asked;
 use determination::copy_rows;
 use determination::fetch_row;
-use determination::start;
+use determination::start_lent;
 use query::Opened;
 use query::Queried;
 use query_list::Numbered;
@@ -105,12 +105,6 @@ pub struct FlatCopied {
 pub struct FlatWritten {
     pub length: usize,
     pub refusal: u16,
-}
-
-// The record after a call, and what the call gives.
-struct FlatAnswered {
-    run: Run,
-    step: FlatStep,
 }
 
 // ---- cards and queries
@@ -357,47 +351,13 @@ fn flat_step(step: Step) -> FlatStep
     }
 }
 
-// The record of a new run for s polynomials, and what the start gives. Where it is refused, the record is the one before.
-fn started(run: Run, s: usize) -> FlatAnswered
-    ensures { λ r. ⌜ StartGivesFlat run s (r .run) (r .step) ⌝ }
-{
-    let first = start(s);
-    let step = first.step;
-    let shown = flat_step(step);
-    if shown.kind == REFUSED {
-        return FlatAnswered {
-            run: run,
-            step: shown,
-        };
-    }
-    let begun = first.run;
-    FlatAnswered {
-        run: begun,
-        step: shown,
-    }
-}
-
-// The record after an answer, and what it gives.
-fn answered(run: Run, a: i64) -> FlatAnswered
-    ensures { λ r. ⌜ AnswerGivesFlat run a (r .run) (r .step) ⌝ }
-{
-    let next = answer(run, a);
-    let after = next.run;
-    let step = next.step;
-    FlatAnswered {
-        run: after,
-        step: flat_step(step),
-    }
-}
-
 // Starts a run for s polynomials in the lent record. Where s is refused, no run begins and the record is as it was.
 #[no_mangle]
 pub extern "C" fn tarski_start(run: &mut Run, s: usize) -> FlatStep
     ensures { λ r. ⌜ StartGivesFlat (now (run .entry)) s (now (run .exit)) r ⌝ }
 {
-    let next = started(*run, s);
-    *run = next.run;
-    next.step
+    let step = start_lent(run, s);
+    flat_step(step)
 }
 
 // Gives the run in the lent record an answer. Where it comes too late, the record is as it was.
@@ -405,9 +365,8 @@ pub extern "C" fn tarski_start(run: &mut Run, s: usize) -> FlatStep
 pub extern "C" fn tarski_answer(run: &mut Run, a: i64) -> FlatStep
     ensures { λ r. ⌜ AnswerGivesFlat (now (run .entry)) a (now (run .exit)) r ⌝ }
 {
-    let next = answered(*run, a);
-    *run = next.run;
-    next.step
+    let step = answer_lent(run, a);
+    flat_step(step)
 }
 
 // How many questions the run in the lent record has asked.

@@ -6,12 +6,12 @@ use Rattle.determination.specs.Record.{stateOf, runPhase, isRunning, isD
 use Rattle.determination.proofs.close.Statement.{statement}
 use Rattle.determination.proofs.close.Tie as tie
 
-add-run : tie.Need-add-run
-add-run c = search needs
+add-head : tie.Need-add-head
+add-head c = search needs
 
 returns : tie.Need-returns
 unfolding stateOf runPhase isRunning isDone
-returns c = (rw (add-one) refl, record { phase = refl; no-rows = refl; no-answers = refl })
+returns c P C Q A = (rw (add-one) refl, record { phase = refl; no-rows = refl; no-answers = refl })
 
 pub close-spec : {M : Type 1} → statement M
-close-spec = tie.close (tie.spec add-run returns)
+close-spec = tie.close (tie.spec add-head returns)

@@ -7,14 +7,14 @@ use Rattle.determination.specs.Record.{stateOf, runPhase, isRunning, isD
 use Rattle.determination.proofs.finish.Statement.{statement}
 use Rattle.determination.proofs.finish.Tie as tie
 
-add-run : tie.Need-add-run
-add-run c = search needs
+add-head : tie.Need-add-head
+add-head c = search needs
 
 returns : tie.Need-returns
 unfolding stateOf runPhase isRunning isDone
-returns c =
-    let st = c .before .before .before in
-    rw (le-leb (st .args .found .number) 64 (st .pre .1), add-one) refl
+returns c P C Q A =
+    let st = c .before in
+    rw (le-leb (st .args .rows) 64 (st .pre .1), add-one) refl
 
 pub finish-spec : {M : Type 1} → statement M
-finish-spec = tie.close (tie.spec add-run returns)
+finish-spec = tie.close (tie.spec add-head returns)

@@ -1,86 +1,101 @@
--- `printout::put_lines` meets its contract: after k lines their text stands at the front, each at most `lineRoom` bytes long.
+-- `printout::put_lines` meets its contract: after k questions their lines stand at the front, and the rest of the printout is left.
 use mathlib.Core.Path.{_≡_, refl, sym, ap, _∙_}
-use mathlib.Core.List.{List, [], _++_}
-use Prim.Native.Nat.{ℕ, _+_, _*_, _-_, _≤_}
-use native.Mathlib.Numerals.{add-one}
+use Prim.Native.Nat.{_*_, _-_, _≤_}
 use native.Mathlib.Omega.{arith}
 use borrow.Author.Needs.{needs}
 use lib.ListN.{length, take}
 use lib.Seq.{length-take-le}
-use Rattle.lines.specs.Text.{lineRoom, textOf}
+use Rattle.refusals.specs.Limits.{mostPoints, mostQuestions}
+use Rattle.runs.specs.Run.{State, Step}
+use Rattle.determination.specs.Record.{runOf, stateOf}
 use Rattle.printout.specs.Printout.{printoutOf}
-use Rattle.printout.specs.Written.{mostLines, mostText}
-use Rattle.printout.specs.Progress.{progressOf, begunOf}
-use Rattle.printout.proofs.Texts.{leftAfter, textAfter, left-more, text-more, printed-all, printed-ended}
+use Rattle.printout.specs.Written.{mostLines, shortLine, mostText}
+use Rattle.printout.specs.Steps.{asking, Plays}
+use Rattle.printout.proofs.Remaining.{Left, left-short, left-begin, left-few, left-goes, left-all}
 use Rattle.printout.proofs.put_lines.Statement.{statement}
 use Rattle.printout.proofs.put_lines.Tie as tie
 
 abbrev Inv-loop : tie.InvT-loop
-Inv-loop card out₀ progress₀ at₀ k₀ out progress at k =
-    (k ≤ mostLines) × (at ≤ lineRoom * k) × (length out ≡ mostText) × (progressOf progress ≡ leftAfter k (begunOf card))
-    × (take at out ≡ textAfter k (begunOf card))
+Inv-loop card out₀ opened head₀ patterns₀ counts₀ products₀ answers₀ a₀ at₀ k₀ out head patterns counts products answers a at k =
+    (at ≤ mostText) × (length out ≡ mostText) × (length patterns ≡ mostPoints) × (length counts ≡ mostPoints)
+    × (length products ≡ mostPoints) × (length answers ≡ 2 * mostPoints)
+    × Left card (asking opened (stateOf (runOf head patterns counts products answers)) a) (take at out) k
 
 abbrev μ-loop : tie.MeasureT-loop
-μ-loop card out₀ progress₀ at₀ k₀ out progress at k = mostLines - k
+μ-loop card out₀ opened head₀ patterns₀ counts₀ products₀ answers₀ a₀ at₀ k₀ out head patterns counts products answers a at k =
+    mostQuestions - k
 
 loop-holds : tie.Need-loop-holds Inv-loop μ-loop
 loop-holds c =
-    let st = c .before .before .before in
-    (omega arith, omega arith, st .pre, (unfold leftAfter in c .begin .ensures), (unfold textAfter in refl))
-
-same-length : tie.Need-same-length Inv-loop μ-loop
-same-length c =
-    let l = c .before .before .before .before .before .before .loop in
-    l .inv .2 ∙ sym (c .before .before .before .before .before .before .before .before .before .before .pre)
-
-returns : tie.Need-returns Inv-loop μ-loop
-returns c =
-    let l = c .before .before .before .before .before .before .loop in
-    let n = c .before .before .before .before .next-line in
-    let card = c .before .before .before .before .before .before .before .before .before .before .args .card .now in
-    let z : textOf (n .result .line) ≡ [] = ap (λ (k : ℕ). take k (n .result .line .bytes)) (c .if1 .taken) in
-    let e : take (l .at) (l .out) ≡ printoutOf card =
-    l .inv .4 ∙ printed-ended card (l .k) (progressOf (l .progress)) (l .inv .3) (sym (n .ensures .text) ∙ z) in
-    (e, sym (length-take-le (l .at) (l .out) (omega (arith, l .inv .1, l .inv .2))) ∙ ap length e, omega (arith, l .inv .0, l .inv .1))
-
-put-line-requires : tie.Need-put-line-requires Inv-loop μ-loop
-put-line-requires c κs =
-    let l = c .before .before .before .before .before .before .before .loop in (
-      c .before .before .before .before .before .next-line .ensures .fits,
-      omega (arith, l .inv .0, l .inv .1, l .inv .2, c .before .before .before .before .before .before .loop-test .taken),
+    let st = c .before .before .before .before in
+    let o = c .before .«open» in (
+      omega arith,
+      st .pre,
+      refl,
+      refl,
+      refl,
+      refl,
+      left-begin (st .args .card .now) (o .result) _ (o .ensures)
+          (λ a b. ap (λ (x : State × Step). x .0) (c .first-head .ensures _ _ _ _ a b .by-rules)),
     )
 
-add-k : tie.Need-add-k Inv-loop μ-loop
-add-k c = let l = c .before .before .before .before .before .before .before .before .before .before .loop in search needs
+-- what is written is short
+module _ (c : tie.At-loop Inv-loop μ-loop) where
+  short : c .loop .at ≤ shortLine * mostLines
+  short =
+      omega (
+        arith,
+        left-short _ _ _ _ (c .loop .inv .6),
+        length-take-le (c .loop .at) (c .loop .out) (omega (arith, c .loop .inv .0, c .loop .inv .1)),
+      )
+
+put-question-requires : tie.Need-put-question-requires Inv-loop μ-loop
+put-question-requires c κs =
+    let l = c .before .before .before .before .before .before in
+    let i = l .loop .inv in ((i .2, i .3, i .4, i .5), omega (arith, short l, i .1))
+
+same-length : tie.Need-same-length Inv-loop μ-loop
+same-length c = search needs
+
+returns : tie.Need-returns Inv-loop μ-loop
+unfolding Plays
+returns c =
+    let i = c .before .before .before .before .before .before .before .before .before .before .before .before .before in
+    let l = i .before .loop in
+    let card = i .before .before .before .before .before .before .args .card .now in
+    let q = c .before .before .before .before .before .before .before .put-question in
+    let g = rw (c .if1 .taken) at (q .ensures) in
+    let e : take (q .result .at) (q .last .1 .1 .1 .1 .1 .1 .1 .0) ≡ printoutOf card =
+    g .put .text ∙ left-all card _ _ _ _ _ (l .inv .6) (g .rest) (g .prints) in
+    let h : q .result .at ≤ mostText = omega (arith, g .fits, short (i .before)) in
+    (e, sym (length-take-le (q .result .at) (q .last .1 .1 .1 .1 .1 .1 .1 .0) (omega (arith, q .kept, l .inv .1))) ∙ ap length e, h)
 
 loop-again : tie.Need-loop-again Inv-loop μ-loop
+unfolding Plays
 loop-again c =
-    let l = c .before .before .before .before .before .before .before .before .before .before .loop in
-    let a = c .before .before .before .before .before .before .before .before .before .before .before .before .before .before .args in
-    let t = begunOf (a .card .now) in
-    let n = c .before .before .before .before .before .before .before .before .next-line in
-    let p = c .before .before .put-line in (
-      omega arith,
-      omega (arith, p .ensures .1, l .inv .1),
-      p .kept .1 .0 ∙ l .inv .2,
-      rw (add-one (l .k)) (n .ensures .left ∙ left-more (l .k) t (progressOf (l .progress)) (l .inv .3)),
-      rw (add-one (l .k))
-          (p .ensures .0 ∙ ap (λ (x : List ℕ). take (l .at) (l .out) ++ x) (n .ensures .text)
-          ∙ text-more (l .k) t (progressOf (l .progress)) (take (l .at) (l .out)) (l .inv .3) (l .inv .4)),
+    let p = c .before .before .before .before .before .before .before .before in
+    let q = p .put-question in
+    let l = p .before .before .before .before .before .before .before .loop in
+    let g = rw (c .before .if1 .left) at (q .ensures) in (
+      omega (arith, g .line .fits, short (p .before .before .before .before .before .before .before)),
+      omega (arith, q .kept, l .inv .1),
+      omega (arith, q .kept, l .inv .2),
+      omega (arith, q .kept, l .inv .3),
+      omega (arith, q .kept, l .inv .4),
+      omega (arith, q .kept, l .inv .5),
+      left-goes _ _ _ _ _ _ (l .inv .6) (l .out) _ (l .at) _ _ refl g,
     )
 
 same-length-2 : tie.Need-same-length-2 Inv-loop μ-loop
-same-length-2 c = c .before .loop .inv .2 ∙ sym (c .before .before .before .before .before .pre)
+same-length-2 c = search needs
 
 returns-2 : tie.Need-returns-2 Inv-loop μ-loop
 returns-2 c =
     let l = c .before .loop in
-    let k : l .k ≡ mostLines = omega (arith, l .inv .0, c .loop-test .left) in
-    let card = c .before .before .before .before .before .args .card .now in
-    let e : take (l .at) (l .out) ≡ printoutOf card = l .inv .4 ∙ ap (λ (x : ℕ). textAfter x (begunOf card)) k ∙ printed-all card in
-    (e, sym (length-take-le (l .at) (l .out) (omega (arith, l .inv .1, l .inv .2))) ∙ ap length e, omega (arith, l .inv .1))
+    absurd (omega (arith, left-few _ _ _ _ _ _ (l .inv .6), c .loop-test .left))
 
 pub put-lines-spec : {M : Type 1} → statement M
 put-lines-spec =
-    tie.close (tie.spec Inv-loop μ-loop (λ c κs. search needs) loop-holds (λ c κs. search needs) same-length returns put-line-requires add-k
-    (λ c. search needs) loop-again same-length-2 returns-2)
+    tie.close (tie.spec Inv-loop μ-loop (λ c κs. search needs) (λ c κs. search needs) loop-holds (λ c. search needs) (λ c. search needs)
+    (λ c. search needs) (λ c. search needs) put-question-requires same-length returns (λ c. search needs) (λ c. search needs) loop-again
+    same-length-2 returns-2)

@@ -5,12 +5,12 @@ use Prim.Native.Nat.{_+_, _≤_, _-_}
 use native.Mathlib.Omega.{arith}
 use borrow.Author.Tests.{not-true, not-false}
 use lib.IntN.{pos}
-use mir.Syntax.{w64}
+use mir.Syntax.{w16}
 use mir.Facts.{toZ-ofZ}
 use lib.ListN.{length, getD}
 use Rattle.rounds.specs.Rows.{rowsWith}
 use Rattle.rounds.specs.Moments.{splits, allSplit}
-use Rattle.run_round_end.proofs.StepLaws.{fairLeft, splits-next, splits-done}
+use Rattle.run_round_end.proofs.StepLaws.{count-at, fairLeft, splits-next, splits-done}
 use borrow.Author.Needs.{needs, sfits-of}
 use Rattle.run_round_end.proofs.all_split.Statement.{statement}
 use Rattle.run_round_end.proofs.all_split.Tie as tie
@@ -44,7 +44,15 @@ shared-slice-copy-out-splits-2 : tie.Need-shared-slice-copy-out-splits-2 Inv-loo
 shared-slice-copy-out-splits-2 c = search needs
 
 splits-requires : tie.Need-splits-requires Inv-loop μ-loop
-splits-requires c κs = search needs
+splits-requires c κs =
+    let s = c .before .before .before .before .before .before .before in
+    let j = c .before .before .before .before .loop .j in
+    let e = getD (s .args .es .now) j (pos 0) in
+    let g = getD (s .args .gs .now) j (pos 0) in (
+      omega (arith, count-at (s .args .counts .now) j, s .pre .1 .0),
+      rw (toZ-ofZ {w = w16} {z = e} (sfits-of (c .before .splits-arg .given))) (s .pre .1 .1 .at j),
+      rw (toZ-ofZ {w = w16} {z = g} (sfits-of (c .splits-arg2 .given))) (s .pre .1 .2 .at j),
+    )
 
 -- what the test of row j says
 splits-here : (c : tie.After-splits Inv-loop μ-loop)
@@ -55,8 +63,8 @@ splits-here c =
     let s = c .before .before .before .before .before .before .before .before in
     let j = c .before .before .before .before .before .loop .j in
     rw (
-      toZ-ofZ {w = w64} {z = getD (s .args .es .now) j (pos 0)} (sfits-of (c .before .before .splits-arg .given)),
-      toZ-ofZ {w = w64} {z = getD (s .args .gs .now) j (pos 0)} (sfits-of (c .before .splits-arg2 .given)),
+      toZ-ofZ {w = w16} {z = getD (s .args .es .now) j (pos 0)} (sfits-of (c .before .before .splits-arg .given)),
+      toZ-ofZ {w = w16} {z = getD (s .args .gs .now) j (pos 0)} (sfits-of (c .before .splits-arg2 .given)),
     )
     at (c .splits .ensures)
 
@@ -69,8 +77,8 @@ next-here : (c : tie.In-loop Inv-loop μ-loop)
 next-here c =
     let s = c .before .before .before .before in
     splits-next (s .args .patterns .now) (s .args .counts .now) (s .args .es .now) (s .args .gs .now) (c .before .loop .j) (omega arith)
-    (s .pre .0)
-    (s .pre .1) (s .pre .2)
+    (s .pre .0 .0)
+    (s .pre .0 .1) (s .pre .0 .2)
 
 returns : tie.Need-returns Inv-loop μ-loop
 returns c =

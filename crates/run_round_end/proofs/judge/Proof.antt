@@ -7,11 +7,10 @@ use borrow.Author.Tests.{not-true, not-false}
 use lib.ListN.{length-append}
 use lib.Seq.{length-sets}
 use Rattle.rounds.specs.Rows.{rowsWith}
-use Rattle.rounds.specs.Moments.{allSplit}
-use Rattle.rounds.specs.Moments.{judged}
+use Rattle.rounds.specs.Moments.{allSplit, judged}
 use Rattle.run_round_end.specs.Steps.{signRows}
 use Rattle.run_round_end.specs.declared.Next.the-variants.{Rows}
-use Rattle.run_round_end.proofs.StepLaws.{extended-is, Ready, ready, put-all-patterns, put-all-counts}
+use Rattle.run_round_end.proofs.StepLaws.{extended-is, proper-from, Ready, ready, put-all-patterns, put-all-counts}
 use borrow.Author.Needs.{needs}
 use Rattle.run_round_end.proofs.judge.Statement.{statement}
 use Rattle.run_round_end.proofs.judge.Tie as tie
@@ -34,10 +33,13 @@ ready-here c =
     let s = start (c .before) in
     ready (s .args .i) (c .power .result) (s .args .patterns .now) (s .args .counts .now) (s .args .es .now) (s .args .gs .now)
     (s .pre .0 .0)
-    (c .power .ensures) (s .pre .0 .1) (s .pre .1 .0) (splits-holds (c .before))
+    (c .power .ensures) (s .pre .0 .1) (s .pre .1 .0 .0) (splits-holds (c .before))
 
 all-split-requires : tie.Need-all-split-requires
-all-split-requires c κs = let s = c .before .before .before .before in (s .pre .0 .1, s .pre .0 .2, s .pre .0 .3)
+all-split-requires c κs =
+    let s = c .before .before .before .before in
+    let p = proper-from (s .args .i) (s .args .patterns .now) (s .args .counts .now) (s .pre .0 .1) (s .pre .1 .0 .0) in
+    ((s .pre .0 .1, s .pre .0 .2, s .pre .0 .3), (p .total, s .pre .1 .0 .1, s .pre .1 .0 .2))
 
 returns : tie.Need-returns
 unfolding judged
@@ -57,7 +59,10 @@ put-rows-requires c κs =
     let s = afterPower a in
     let r = ready-here a in (
       (omega arith, r .base, r .below),
-      ((s .pre .0 .1, s .pre .0 .2, s .pre .0 .3), (r .splits, (omega (arith, r .room, s .pre .1), omega (arith, r .room, s .pre .1)))),
+      (
+        (s .pre .0 .1, s .pre .0 .2, s .pre .0 .3),
+        ((r .total, r .splits), (omega (arith, r .room, s .pre .1 .1), omega (arith, r .room, s .pre .1 .1))),
+      ),
     )
 
 put-rows-requires-2 : tie.Need-put-rows-requires-2
@@ -70,10 +75,10 @@ put-rows-requires-2 c κs =
       (
         (s .pre .0 .1, s .pre .0 .2, s .pre .0 .3),
         (
-          r .splits,
+          (r .total, r .splits),
           (
-            rw (w .1 .0, length-sets) (omega (arith, w .0, r .room, s .pre .1)),
-            rw (w .1 .1, length-sets) (omega (arith, w .0, r .room, s .pre .1)),
+            rw (w .1 .0, length-sets) (omega (arith, w .0, r .room, s .pre .1 .1)),
+            rw (w .1 .1, length-sets) (omega (arith, w .0, r .room, s .pre .1 .1)),
           ),
         ),
       ),
@@ -91,10 +96,10 @@ put-rows-requires-3 c κs =
       (
         (s .pre .0 .1, s .pre .0 .2, s .pre .0 .3),
         (
-          r .splits,
+          (r .total, r .splits),
           (
-            rw (w₂ .1 .0, length-sets, w .1 .0, length-sets) (omega (arith, w .0, w₂ .0, r .room, s .pre .1)),
-            rw (w₂ .1 .1, length-sets, w .1 .1, length-sets) (omega (arith, w .0, w₂ .0, r .room, s .pre .1)),
+            rw (w₂ .1 .0, length-sets, w .1 .0, length-sets) (omega (arith, w .0, w₂ .0, r .room, s .pre .1 .1)),
+            rw (w₂ .1 .1, length-sets, w .1 .1, length-sets) (omega (arith, w .0, w₂ .0, r .room, s .pre .1 .1)),
           ),
         ),
       ),
@@ -139,9 +144,9 @@ returns-2 c =
     rw (r .splits, extended-is (s .args .i) b R es gs (a .power .ensures)) (
       ap Rows (omega (arith, w .0, w₂ .0, w₃ .0, l, m)),
       put-all-patterns A D E (s .args .new .now) _ _ _ _ _ (w .0) (w₂ .0) (w .1 .0) (w₂ .1 .0) (w₃ .1 .0)
-          (omega (arith, l, m, r .room, s .pre .1)),
+          (omega (arith, l, m, r .room, s .pre .1 .1)),
       put-all-counts A D E (s .args .numbers .now) _ _ _ _ _ (w .0) (w₂ .0) (w .1 .1) (w₂ .1 .1) (w₃ .1 .1)
-          (omega (arith, l, m, r .room, s .pre .1)),
+          (omega (arith, l, m, r .room, s .pre .1 .1)),
     )
 
 pub judge-spec : {M : Type 1} → statement M

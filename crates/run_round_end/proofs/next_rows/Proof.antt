@@ -1,10 +1,11 @@
 -- `run_round_end::next_rows` meets its contract.
 use mathlib.Core.Path.{_≡_, refl, sym, _∙_}
 use mathlib.Core.Bool.{true, false}
-use Prim.Native.Nat.{_≤_}
+use mathlib.Core.List.{_++_}
+use Prim.Native.Nat.{_*_, _≤_}
 use native.Mathlib.Omega.{arith}
-use borrow.Author.Tests.{not-true, not-false, eq-eqb, ne-eqb}
-use lib.ListN.{length}
+use borrow.Author.Tests.{not-true, not-false, eq-eqb}
+use lib.ListN.{length, length-append}
 use lib.Seq.{length-take-le}
 use Rattle.rounds.specs.Rows.{rowsWith}
 use Rattle.rounds.specs.RoundEnd.{properRows, roundRows}
@@ -21,10 +22,10 @@ proper-holds c = sym (c .before .proper-rows .ensures) ∙ not-false _ (c .if1 .
 few : (c : tie.Else1) → length (c .before .before .before .before .before .before .args .patterns .now) ≤ 64
 few c =
     let s = c .before .before .before .before .before .before in
-    proper-from (s .args .i) (s .args .patterns .now) (s .args .counts .now) (s .pre .1) (proper-holds c) .few
+    proper-from (s .args .i) (s .args .patterns .now) (s .args .counts .now) (s .pre .0 .1) (proper-holds c) .few
 
 proper-rows-requires : tie.Need-proper-rows-requires
-proper-rows-requires c κs = let s = c .before .before .before .before in (s .pre .0, s .pre .1)
+proper-rows-requires c κs = let s = c .before .before .before .before in (s .pre .0 .0, s .pre .0 .1)
 
 returns : tie.Need-returns
 unfolding roundRows
@@ -34,34 +35,27 @@ returns c =
     ≡ false = sym (c .before .proper-rows .ensures) ∙ not-true _ (c .if1 .taken) in
     rw e refl
 
-mul-if2 : tie.Need-mul-if2
-mul-if2 c = omega (arith, few c)
-
-returns-2 : tie.Need-returns-2
-unfolding roundRows
-returns-2 c =
-    let s = c .before .before .before .before .before .before .before in
-    let l = length-rowsWith (s .args .patterns .now) (s .args .counts .now) (s .pre .1) in
-    rw (proper-holds (c .before), l, ne-eqb _ _ (c .if2 .taken)) refl
-
 array-borrow-prefix-es : tie.Need-array-borrow-prefix-es
-array-borrow-prefix-es c = few (c .before)
+array-borrow-prefix-es c = few c
 
 slice-aggregate-by-moments : tie.Need-slice-aggregate-by-moments
-slice-aggregate-by-moments c = sym (length-take-le _ _ (few (c .before .before)))
+slice-aggregate-by-moments c = sym (length-take-le _ _ (few (c .before)))
 
 array-borrow-prefix-gs : tie.Need-array-borrow-prefix-gs
-array-borrow-prefix-gs c = few (c .before .before)
+array-borrow-prefix-gs c = few (c .before)
 
 slice-aggregate-by-moments-2 : tie.Need-slice-aggregate-by-moments-2
-slice-aggregate-by-moments-2 c = sym (length-take-le _ _ (few (c .before .before .before)))
+slice-aggregate-by-moments-2 c = sym (length-take-le _ _ (few (c .before .before)))
 
 by-moments-requires : tie.Need-by-moments-requires
 by-moments-requires c κs =
-    let s = c .before .before .before .before .before .before .before .before .before .before .before in
-    let h = few (c .before .before .before .before .before) in (
-      (s .pre .0, s .pre .1, c .before .before .before .before .if2 .left),
-      ((length-take-le _ _ h, length-take-le _ _ h), (proper-holds (c .before .before .before .before .before), s .pre .2, s .pre .3)),
+    let s = c .before .before .before .before .before .before .before .before .before .before in
+    let h = few (c .before .before .before .before) in (
+      s .pre .0,
+      (
+        (s .pre .1 .0, s .pre .1 .1, length-take-le _ _ h, length-take-le _ _ h),
+        (proper-holds (c .before .before .before .before), s .pre .1 .2, s .pre .1 .3),
+      ),
     )
 
 same-length : tie.Need-same-length
@@ -70,17 +64,17 @@ same-length c = search needs
 same-length-2 : tie.Need-same-length-2
 same-length-2 c = search needs
 
-returns-3 : tie.Need-returns-3
+returns-2 : tie.Need-returns-2
 unfolding roundRows
-returns-3 c =
+returns-2 c =
     let s = c .before .before .before .before .before .before .before .before .before .before .before .before .before .before .before
-    .before .before .before in
-    let l = length-rowsWith (s .args .patterns .now) (s .args .counts .now) (s .pre .1) in
-    rw (
-      proper-holds (c .before .before .before .before .before .before .before .before .before .before .before .before),
-      l,
-      eq-eqb _ _ (c .before .before .before .before .before .before .before .before .before .before .before .if2 .left),
-    )
+    .before .before in
+    let x = s .args .x .now in
+    let y = s .args .y .now in
+    let R = rowsWith (s .args .patterns .now) (s .args .counts .now) in
+    let e : length (x ++ y) ≡ 2 * length R =
+    omega (arith, length-append x y, length-rowsWith (s .args .patterns .now) (s .args .counts .now) (s .pre .0 .1), s .pre .0) in
+    rw (proper-holds (c .before .before .before .before .before .before .before .before .before .before .before), eq-eqb _ _ e)
     (c .before .before .before .before .before .before .by-moments .ensures)
 
 pub next-rows-spec : {M : Type 1} → statement M
@@ -89,8 +83,6 @@ next-rows-spec =
     (tie.spec
     proper-rows-requires
     returns
-    mul-if2
-    returns-2
     array-borrow-prefix-es
     slice-aggregate-by-moments
     array-borrow-prefix-gs
@@ -98,4 +90,4 @@ next-rows-spec =
     by-moments-requires
     same-length
     same-length-2
-    returns-3)
+    returns-2)

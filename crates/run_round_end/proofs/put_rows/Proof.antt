@@ -6,15 +6,15 @@ use native.Mathlib.Nat.{add-zero}
 use Prim.Native.Nat.{_+_, _*_, _≤_, _-_}
 use native.Mathlib.Omega.{arith}
 use lib.IntN.{pos}
-use mir.Syntax.{w64}
+use mir.Syntax.{w16}
 use mir.Val.{toZ, ofZ}
 use mir.Facts.{toZ-ofZ}
 use lib.ListN.{length, getD}
 use lib.Seq.{sets, length-sets}
 use Rattle.signs.proofs.Positions.{below-at}
 use Rattle.rounds.specs.Rows.{patterns as patternsOf, counts as countsOf, rowIf}
-use Rattle.run_round_end.proofs.StepLaws.{fairLeft, rowsLeft, splits-now, splits-later, rows-next, rows-done, digit-base, put-length}
-use Rattle.run_round_end.proofs.StepLaws.{put-patterns, put-counts}
+use Rattle.run_round_end.proofs.StepLaws.{count-at, fairLeft, rowsLeft, splits-now, splits-later, rows-next, rows-done, digit-base}
+use Rattle.run_round_end.proofs.StepLaws.{put-length, put-patterns, put-counts}
 use borrow.Author.Needs.{needs, sfits-of}
 use Rattle.run_round_end.proofs.put_rows.Statement.{statement}
 use Rattle.run_round_end.proofs.put_rows.Tie as tie
@@ -38,7 +38,7 @@ mul-base : tie.Need-mul-base Inv-loop μ-loop
 mul-base c = let s = c .before .before .before .before in omega (arith, digit-base (s .args .t) (s .args .w) (s .pre .0 .0))
 
 loop-holds : tie.Need-loop-holds Inv-loop μ-loop
-loop-holds c = let s = c .before .before .before .before in (omega arith, s .pre .1 .1 .0, refl, refl, refl, refl, refl)
+loop-holds c = let s = c .before .before .before .before in (omega arith, s .pre .1 .1 .0 .1, refl, refl, refl, refl, refl)
 
 mul-count-with : tie.Need-mul-count-with Inv-loop μ-loop
 mul-count-with c = search needs
@@ -61,12 +61,12 @@ shared-slice-copy-out-count-with-2 c = search needs
 -- the numbers that are read, as the code passes them on
 e-is : (c : tie.After-count-with-arg Inv-loop μ-loop)
     → let s = c .before .before .before .before .before .before .before .before in
-    let x = getD (s .args .es .now) (c .before .before .before .loop .j) (pos 0) in toZ w64 (ofZ w64 x) ≡ x
+    let x = getD (s .args .es .now) (c .before .before .before .loop .j) (pos 0) in toZ w16 (ofZ w16 x) ≡ x
 e-is c = toZ-ofZ (sfits-of (c .count-with-arg .given))
 
 g-is : (c : tie.After-count-with-arg2 Inv-loop μ-loop)
     → let s = c .before .before .before .before .before .before .before .before .before in
-    let x = getD (s .args .gs .now) (c .before .before .before .before .loop .j) (pos 0) in toZ w64 (ofZ w64 x) ≡ x
+    let x = getD (s .args .gs .now) (c .before .before .before .before .loop .j) (pos 0) in toZ w16 (ofZ w16 x) ≡ x
 g-is c = toZ-ofZ (sfits-of (c .count-with-arg2 .given))
 
 count-with-requires : tie.Need-count-with-requires Inv-loop μ-loop
@@ -77,7 +77,7 @@ count-with-requires c κs =
     let f = splits-now (s .args .patterns .now) (s .args .counts .now) (s .args .es .now) (s .args .gs .now) j (omega arith)
     (s .pre .1 .0 .0) (s .pre .1 .0 .1)
     (s .pre .1 .0 .2) (l .inv .1) in
-    (s .pre .0 .0, rw (e-is (c .before), g-is c) f)
+    (s .pre .0 .0, omega (arith, count-at (s .args .counts .now) j, s .pre .1 .1 .0 .0), rw (e-is (c .before), g-is c) f)
 
 -- the rows from j on are what row j gives, and those from j + 1 on
 splits : (c : tie.After-count-with Inv-loop μ-loop)

@@ -1,30 +1,24 @@
 -- `solver_residuals::gather_one` meets its contract.
-use native.Mathlib.Omega.{arith}
-use native.Mathlib.Nat.{add-zero, le-refl}
-use native.Mathlib.Numerals.{add-one}
-use Prim.Native.Nat.{ℕ, zero, suc, _+_, _-_, _*_, _^_, _≤_, _<_}
-use mathlib.Core.Path.{_≡_, refl, sym, ap, _∙_, subst}
-use mathlib.Core.Bool.{Bool, true, false, cond}
-use mathlib.Core.List.{List, [], _∷_, _++_}
+use mathlib.Core.Path.{_≡_, refl, sym, _∙_}
+use mathlib.Core.Bool.{true, false}
+use native.Mathlib.Nat.{add-zero}
 use borrow.Author.Needs.{needs}
-use borrow.Author.Tests.{eq-eqb, ne-eqb, le-leb, lt-leb}
-use lib.Dec.{leb, ltb}
-use lib.IntN.{ℤ, pos, natAbs, _+ℤ_, _-ℤ_, _*ℤ_}
-use lib.ListN.{length, getD, take, drop, set, length-set}
-use mir.Syntax.{w16}
-use mir.Val.{toZ, ofZ}
+use borrow.Author.Tests.{not-true, not-false}
 use Rattle.integers.proofs.I16.{back}
-use Rattle.solver_residuals.proofs.Sums.{zero-bits, other-bits}
+use Rattle.solver_residuals.specs.Residuals.{either0}
 use Rattle.solver_residuals.proofs.gather_one.Statement.{statement}
 use Rattle.solver_residuals.proofs.gather_one.Tie as tie
-use Rattle.solver_residuals.proofs.gather_one.Reads as reads
-use Rattle.solver_residuals.proofs.gather_one.Lts as lts
-use Rattle.signs.proofs.digit_sets.Reads as digit-sets-reads
+
+counts-requires : tie.Need-counts-requires
+counts-requires c κs = search needs
 
 returns : tie.Need-returns
 returns c =
-    let st = c .before .before .before in
-    rw (zero-bits (st .args .x) (search needs) (c .if1 .taken)) (sym (add-zero _), (refl, (refl, refl)))
+    let a = c .before .before .before .before .args in
+    let k = c .before .counts in
+    let e : either0 (a .x) (a .y) ≡ false = sym (rw (back (a .x) (search needs), back (a .y) (search needs)) at (k .ensures))
+    ∙ not-true (k .result) (c .if1 .taken) in
+    rw e (sym (add-zero _), (refl, (refl, (refl, refl))))
 
 digit-sets-requires : tie.Need-digit-sets-requires
 digit-sets-requires c κs = search needs
@@ -47,6 +41,12 @@ mul-x c = search needs
 slice-set-from-x : tie.Need-slice-set-from-x
 slice-set-from-x c = search needs
 
+mul-y : tie.Need-mul-y
+mul-y c = search needs
+
+slice-set-from-y : tie.Need-slice-set-from-y
+slice-set-from-y c = search needs
+
 add-result : tie.Need-add-result
 add-result c = search needs
 
@@ -59,20 +59,29 @@ same-length-2 c = search needs
 same-length-3 : tie.Need-same-length-3
 same-length-3 c = search needs
 
+same-length-4 : tie.Need-same-length-4
+same-length-4 c = search needs
+
 returns-2 : tie.Need-returns-2
 returns-2 c =
-    let st = c .before .before .before .before in
+    let st = c .before .before .before .before .before in
+    let a = st .args in
+    let k = c .before .before .counts in
+    let e : either0 (a .x) (a .y) ≡ true = sym (rw (back (a .x) (search needs), back (a .y) (search needs)) at (k .ensures))
+    ∙ not-false (k .result) (c .before .if1 .left) in
     rw (
-      other-bits (st .args .x) (c .before .if1 .left),
+      e,
       c .digit-sets .ensures .0,
       c .digit-sets .ensures .1,
       back (st .args .x) (search needs),
-    ) (refl, (refl, (refl, refl)))
+      back (st .args .y) (search needs),
+    ) (refl, (refl, (refl, (refl, refl))))
 
 pub gather-one-spec : {M : Type 1} → statement M
 gather-one-spec =
     tie.close
     (tie.spec
+    counts-requires
     returns
     digit-sets-requires
     mul-ones
@@ -81,8 +90,11 @@ gather-one-spec =
     slice-write-twos
     mul-x
     slice-set-from-x
+    mul-y
+    slice-set-from-y
     add-result
     same-length
     same-length-2
     same-length-3
+    same-length-4
     returns-2)
