@@ -1,18 +1,24 @@
 -- The functions of the solver's recursion meet their contracts: the solver finds both solutions, or there are not two.
 use mathlib.Core.Path.{_≡_, refl, sym, ap, _∙_}
+use mathlib.Core.List.{_++_}
+use mathlib.Core.Bool.{true}
 use native.Mathlib.Omega.{arith}
 use borrow.Author.Needs.{needs}
 use borrow.Author.Tests.{not-true, not-false}
 use lib.IntN.{pos}
-use lib.ListN.{length, getD, length-set}
+use lib.ListN.{length, getD, take, length-set}
 use lib.Seq.{length-take-le}
+use Rattle.integers.specs.Sums.{Within}
 use Rattle.integers.proofs.Sums.{within-more}
 use Rattle.integers.proofs.I16.{back}
 use Rattle.signs.proofs.Powers.{power-less}
 use Rattle.adapted.specs.Split.{chosen}
 use Rattle.adapted.proofs.Adapting.{some-polynomial, chosen-rising, chosen-below}
 use Rattle.adapted.proofs.Merge.{chosen-length}
-use Rattle.solutions.specs.Solution.{Posed}
+use Rattle.solutions.specs.Solution.{Posed, Solution}
+use Rattle.signs.specs.Adapted.{adapted}
+use Rattle.solver_residuals.specs.Residuals.{residuals}
+use Rattle.solver_recursion.specs.Steps.{asked₂, PutBoth}
 use Rattle.solver_recursion.proofs.Steps.{rank-all}
 use Rattle.solver_recursion.proofs.Turns.{no-patterns, one-pattern, within-sum, second-within, third-within, spread-within}
 use Rattle.solver_recursion.proofs.Turns.{moment-none, residuals-none, both-too-large, room, within-take, within-between, parted}
@@ -160,6 +166,98 @@ solve-pair-calls t = (solve-split-below t, solve-split.Post)
 abbrev solve-split-calls : ℕ → solve-split-lts.Claims
 solve-split-calls t = (power-reads.Asked, power-reads.Learnt, split-reads.Asked, split-reads.Learnt, solve-low-below t, solve-low.Post)
 
+-- ---- what `find_moments` knows, step by step: names with 0 are of what is known before a moment is asked for, with ′ of the second system
+
+-- the second list is as long as the marks say
+two : (t : ℕ) (c : find-moments-lts.After-shared (find-moments-calls t) (find-moments-at t) find-moments.Post) →
+    let a = c .before .before .before .args in
+    c .shared .result ≡ length (chosen 2 (a .low .now) (a .mark .now))
+two t c =
+    let st = c .before .before .before in
+    c .shared .ensures ∙ rank-all 2 (st .args .low .now) (st .args .mark .now) (st .pre .1 .0 .4)
+
+-- the first moments of both systems
+firsts : (t : ℕ) (c : find-moments-lts.Else1 (find-moments-calls t) (find-moments-at t) find-moments.Post) →
+    let a = c .before .before .before .before .before .before .before .before .before .before .before .args in
+    let s = c .before .before .before .solve-pair in
+    Solution (a .i) (a .low .now) (take (length (a .low .now)) (a .x .now)) (s .last .1 .1 .1 .1 .0)
+    × Solution (a .i) (a .low .now) (take (length (a .low .now)) (a .y .now)) (s .last .1 .1 .1 .1 .1 .0)
+firsts t c = let s = c .before .before .before .solve-pair in rw (not-false (s .result) (c .if1 .left)) at (s .ensures)
+
+-- the second moments that are known are small
+small-0 : (t : ℕ) (c : find-moments-lts.After-second (find-moments-calls t) (find-moments-at t) find-moments.Post) → Within 64 (c .second
+    .last .1 .1 .0)
+small-0 t c =
+    let pr = c .before .before .before .before .before .before .before .before .before .before .before .before .before .before .pre .1 in
+    let k = c .second in
+    second-within 64 _ _ (k .last .1 .1 .0) (k .ensures) (k .kept .1 .1 .0 ∙ pr .1 .1 .1 ∙ sym (pr .0 .4))
+    (within-sum 64 _ (firsts t (c .before .before .before) .0 .small))
+
+small-0′ : (t : ℕ) (c : find-moments-lts.After-second2 (find-moments-calls t) (find-moments-at t) find-moments.Post) → Within 64 (c
+    .second2 .last .1 .1 .0)
+small-0′ t c =
+    let pr = c .before .before .before .before .before .before .before .before .before .before .before .before .before .before .before
+    .before .before .before .pre .1 in
+    let k = c .second2 in
+    second-within 64 _ _ (k .last .1 .1 .0) (k .ensures) (k .kept .1 .1 .0 ∙ pr .1 .1 .4 ∙ sym (pr .0 .4))
+    (within-sum 64 _ (firsts t (c .before .before .before .before .before .before .before) .1 .small))
+
+-- the second moments of both systems: what was missing, put back
+seconds : (t : ℕ) (c : find-moments-lts.Else2 (find-moments-calls t) (find-moments-at t) find-moments.Post) →
+    let a = c .before .before .before .before .before .before .before .before .before .before .before .before .before .before .before
+    .before .before .before .before .before .before .before .before .before .before .before .before .args in
+    let m = c .before .before .before .moment in
+    let L = chosen 2 (a .low .now) (a .mark .now) in
+    PutBoth (a .i) L (a .mark .now) 2
+    (residuals (a .i) (a .low .now) (c .before .before .before .before .before .before .before .before .before .before .before .before
+    .before .second .last .1 .1 .0) (adapted (a .i) L) (asked₂ (a .low .now) (a .mark .now) (a .x .now)))
+    (residuals (a .i) (a .low .now) (c .before .before .before .before .before .before .before .before .before .second2 .last .1 .1 .0)
+    (adapted (a .i) L) (asked₂ (a .low .now) (a .mark .now) (a .y .now)))
+    (c .before .before .before .before .before .before .before .before .before .before .before .before .before .second .last .1 .1 .0) (c
+    .before .before .before .before .before .before .before .before .before .second2 .last .1 .1 .0) (m .last .1 .1 .1 .1 .1 .1 .0)
+    (m .last .1 .1 .1 .1 .1 .1 .1 .0) true
+seconds t c =
+    let m = c .before .before .before .moment in
+    rw (
+      two t (c .before .before .before .before .before .before .before .before .before .before .before .before .before .before .before
+          .before .before .before .before .before .before .before .before .before),
+      not-false (m .result) (c .if2 .left),
+    ) at (m .ensures)
+
+long : (t : ℕ) (c : find-moments-lts.After-moment (find-moments-calls t) (find-moments-at t) find-moments.Post) → length (c .moment .last
+    .1 .1 .1 .1 .1 .1 .0) ≡ length (c .before .before .before .before .before .before .before .before .before .before .before .before
+    .before .before .before .before .before .before .before .before .before .before .before .before .args .low .now)
+long t c = c .moment .kept .1 .1 .1 .1 .1 .1 .0 ∙ c .before .before .before .before .before .before .before .before .before .before
+    .second .kept .1 .1 .0 ∙ c .before .before .before .before .before .before .before .before .before .before .before .before .before
+    .before .before .before .before .before .before .before .before .before .before .before .pre .1 .1 .1 .1
+
+long′ : (t : ℕ) (c : find-moments-lts.After-moment (find-moments-calls t) (find-moments-at t) find-moments.Post) → length (c .moment
+    .last .1 .1 .1 .1 .1 .1 .1 .0) ≡ length (c .before .before .before .before .before .before .before .before .before .before .before
+    .before .before .before .before .before .before .before .before .before .before .before .before .before .args .low .now)
+long′ t c = c .moment .kept .1 .1 .1 .1 .1 .1 .1 .0 ∙ c .before .before .before .before .before .before .second2 .kept .1 .1 .0 ∙ c
+    .before .before .before .before .before .before .before .before .before .before .before .before .before .before .before .before
+    .before .before .before .before .before .before .before .before .pre .1 .1 .1 .4
+
+small : (t : ℕ) (c : find-moments-lts.Else2 (find-moments-calls t) (find-moments-at t) find-moments.Post) → Within 128 (c .before .before
+    .before .moment .last .1 .1 .1 .1 .1 .1 .0)
+small t c =
+    let M = seconds t c .0 in
+    spread-within 64 2 _ (M .0) _ _ (M .2) (long t (c .before .before .before) ∙ sym (c .before .before .before .before .before .before
+    .before .before .before .before .before .before .before .before .before .before .before .before .before .before .before .before
+    .before .before .before .before .before .pre .1 .0 .4)) (small-0 t (c .before .before .before .before .before .before .before
+    .before .before .before .before .before .before))
+    (within-sum 64 (M .0) (M .1 .small))
+
+small′ : (t : ℕ) (c : find-moments-lts.Else2 (find-moments-calls t) (find-moments-at t) find-moments.Post) → Within 128 (c .before
+    .before .before .moment .last .1 .1 .1 .1 .1 .1 .1 .0)
+small′ t c =
+    let M = seconds t c .1 in
+    spread-within 64 2 _ (M .0) _ _ (M .2) (long′ t (c .before .before .before) ∙ sym (c .before .before .before .before .before .before
+    .before .before .before .before .before .before .before .before .before .before .before .before .before .before .before .before
+    .before .before .before .before .before .pre .1 .0 .4)) (small-0′ t (c .before .before .before .before .before .before .before
+    .before .before))
+    (within-sum 64 (M .0) (M .1 .small))
+
 find-moments-shared-requires : (t : ℕ) → find-moments-lts.Need-shared-requires (find-moments-calls t) (find-moments-at t) find-moments.Post
 find-moments-shared-requires t c κs =
     let st = c .before .before in
@@ -172,9 +270,7 @@ find-moments-add-m t c =
     let st = c .before .before .before in
     let a = st .args in
     let pr = st .pre .1 in
-    let sh = c .shared in
-    let two = sh .ensures ∙ rank-all 2 (a .low .now) (a .mark .now) (pr .0 .4) in
-    omega (arith, two, chosen-length 2 (a .low .now) (a .mark .now), pr .0 .3)
+    omega (arith, two t c, chosen-length 2 (a .low .now) (a .mark .now), pr .0 .3)
 
 find-moments-slice-aggregate-solve-pair : (t : ℕ) → find-moments-lts.Need-slice-aggregate-solve-pair (find-moments-calls t)
     (find-moments-at t) find-moments.Post
@@ -197,22 +293,19 @@ find-moments-solve-pair-requires : (t : ℕ) → find-moments-lts.Need-solve-pai
 find-moments-solve-pair-requires t c κs =
     let st = c .before .before .before .before .before .before .before in
     let a = st .args in
-    let pr = st .pre .1 in (
+    let pr = st .pre .1 in
+    let n = length (a .low .now) in (
       omega (arith, st .pre .0),
       (
         (omega (arith, pr .0 .0), pr .0 .1, pr .0 .2, pr .0 .3),
         (
           (
-            length-take-le (length (a .low .now)) (a .x .now) (omega (arith, pr .1 .0 .0)),
-            length-take-le (length (a .low .now)) (a .y .now) (omega (arith, pr .1 .0 .0, pr .1 .0 .1)),
+            length-take-le n (a .x .now) (omega (arith, pr .1 .0 .0)),
+            length-take-le n (a .y .now) (omega (arith, pr .1 .0 .0, pr .1 .0 .1)),
             pr .1 .1 .0,
             pr .1 .1 .3,
           ),
-          (
-            within-take 64 (length (a .low .now)) (a .x .now) (pr .1 .0 .2),
-            within-take 64 (length (a .low .now)) (a .y .now) (pr .1 .0
-                .3),
-          ),
+          (within-take 64 n (a .x .now) (pr .1 .0 .2), within-take 64 n (a .y .now) (pr .1 .0 .3)),
         ),
       ),
     )
@@ -230,17 +323,11 @@ find-moments-second-requires t c κs =
     let st = c .before .before .before .before .before .before .before .before .before .before .before .before .before in
     let a = st .args in
     let pr = st .pre .1 in
-    let sh = c .before .before .before .before .before .before .before .before .before .before .shared in
-    let two = sh .ensures ∙ rank-all 2 (a .low .now) (a .mark .now) (pr .0 .4) in
-    let s = c .before .before .before .before .before .solve-pair in
-    let d = s .last .1 .1 .1 .1 .0 in
-    let d′ = s .last .1 .1 .1 .1 .1 .0 in
-    let nd = s .kept .1 .1 .1 .1 .0 ∙ pr .1 .1 .0 in
-    let nd′ = s .kept .1 .1 .1 .1 .1 .0 ∙ pr .1 .1 .3 in
-    let S = rw (not-false (s .result) (c .before .before .if1 .left)) at (s .ensures) in
-    let wd = within-sum 64 d (S .0 .small) in
-    let wd′ = within-sum 64 d′ (S .1 .small) in
-    (nd ∙ sym (pr .0 .4), pr .1 .1 .1 ∙ sym (pr .0 .4), within-more 64 256 d (omega arith) wd)
+    let s = c .before .before .before .before .before .solve-pair in (
+      s .kept .1 .1 .1 .1 .0 ∙ pr .1 .1 .0 ∙ sym (pr .0 .4),
+      pr .1 .1 .1 ∙ sym (pr .0 .4),
+      within-more 64 256 _ (omega arith) (within-sum 64 _ (firsts t (c .before .before) .0 .small)),
+    )
 
 find-moments-second-requires-2 : (t : ℕ) → find-moments-lts.Need-second-requires-2 (find-moments-calls t) (find-moments-at t)
     find-moments.Post
@@ -249,25 +336,11 @@ find-moments-second-requires-2 t c κs =
     .before .before in
     let a = st .args in
     let pr = st .pre .1 in
-    let sh = c .before .before .before .before .before .before .before .before .before .before .before .before .before .before .shared in
-    let two = sh .ensures ∙ rank-all 2 (a .low .now) (a .mark .now) (pr .0 .4) in
-    let s = c .before .before .before .before .before .before .before .before .before .solve-pair in
-    let d = s .last .1 .1 .1 .1 .0 in
-    let d′ = s .last .1 .1 .1 .1 .1 .0 in
-    let nd = s .kept .1 .1 .1 .1 .0 ∙ pr .1 .1 .0 in
-    let nd′ = s .kept .1 .1 .1 .1 .1 .0 ∙ pr .1 .1 .3 in
-    let S = rw (not-false (s .result) (c .before .before .before .before .before .before .if1 .left)) at (s .ensures) in
-    let wd = within-sum 64 d (S .0 .small) in
-    let wd′ = within-sum 64 d′ (S .1 .small) in
-    (nd′ ∙ sym (pr .0 .4), pr .1 .1 .4 ∙ sym (pr .0 .4), within-more 64 256 d′ (omega arith) wd′)
-
-find-moments-mul-moment : (t : ℕ) → find-moments-lts.Need-mul-moment (find-moments-calls t) (find-moments-at t) find-moments.Post
-find-moments-mul-moment t c =
-    let st = c .before .before .before .before .before .before .before .before .before .before .before .before .before .before .before
-    .before .before .before .before in
-    let a = st .args in
-    let pr = st .pre .1 in
-    omega (arith, pr .0 .3)
+    let s = c .before .before .before .before .before .before .before .before .before .solve-pair in (
+      s .kept .1 .1 .1 .1 .1 .0 ∙ pr .1 .1 .3 ∙ sym (pr .0 .4),
+      pr .1 .1 .4 ∙ sym (pr .0 .4),
+      within-more 64 256 _ (omega arith) (within-sum 64 _ (firsts t (c .before .before .before .before .before .before) .1 .small)),
+    )
 
 find-moments-part-moment-end : (t : ℕ) → find-moments-lts.Need-part-moment-end (find-moments-calls t) (find-moments-at t) find-moments.Post
 find-moments-part-moment-end t c =
@@ -275,18 +348,13 @@ find-moments-part-moment-end t c =
     .before .before .before .before in
     let a = st .args in
     let pr = st .pre .1 in
-    let sh = c .before .before .before .before .before .before .before .before .before .before .before .before .before .before .before
-    .before .shared in
-    let two = sh .ensures ∙ rank-all 2 (a .low .now) (a .mark .now) (pr .0 .4) in
-    omega (arith, two, pr .1 .0 .0, pr .1 .0 .1)
-
-find-moments-mul-moment-2 : (t : ℕ) → find-moments-lts.Need-mul-moment-2 (find-moments-calls t) (find-moments-at t) find-moments.Post
-find-moments-mul-moment-2 t c =
-    let st = c .before .before .before .before .before .before .before .before .before .before .before .before .before .before .before
-    .before .before .before .before .before in
-    let a = st .args in
-    let pr = st .pre .1 in
-    omega (arith, pr .0 .3)
+    omega (
+      arith,
+      two t (c .before .before .before .before .before .before .before .before .before .before .before .before .before
+          .before .before .before),
+      pr .1 .0 .0,
+      pr .1 .0 .1,
+    )
 
 find-moments-part-moment-end-2 : (t : ℕ) → find-moments-lts.Need-part-moment-end-2 (find-moments-calls t) (find-moments-at t)
     find-moments.Post
@@ -295,10 +363,13 @@ find-moments-part-moment-end-2 t c =
     .before .before .before .before .before in
     let a = st .args in
     let pr = st .pre .1 in
-    let sh = c .before .before .before .before .before .before .before .before .before .before .before .before .before .before .before
-    .before .before .shared in
-    let two = sh .ensures ∙ rank-all 2 (a .low .now) (a .mark .now) (pr .0 .4) in
-    omega (arith, two, pr .1 .0 .0, pr .1 .0 .1)
+    omega (
+      arith,
+      two t (c .before .before .before .before .before .before .before .before .before .before .before .before .before
+          .before .before .before .before),
+      pr .1 .0 .0,
+      pr .1 .0 .1,
+    )
 
 find-moments-moment-requires : (t : ℕ) → find-moments-lts.Need-moment-requires (find-moments-calls t) (find-moments-at t) find-moments.Post
 find-moments-moment-requires t c κs =
@@ -308,46 +379,26 @@ find-moments-moment-requires t c κs =
     let pr = st .pre .1 in
     let sh = c .before .before .before .before .before .before .before .before .before .before .before .before .before .before .before
     .before .before .before .before .before .shared in
-    let two = sh .ensures ∙ rank-all 2 (a .low .now) (a .mark .now) (pr .0 .4) in
-    let s = c .before .before .before .before .before .before .before .before .before .before .before .before .before .before .before
-    .solve-pair in
-    let d = s .last .1 .1 .1 .1 .0 in
-    let d′ = s .last .1 .1 .1 .1 .1 .0 in
-    let nd = s .kept .1 .1 .1 .1 .0 ∙ pr .1 .1 .0 in
-    let nd′ = s .kept .1 .1 .1 .1 .1 .0 ∙ pr .1 .1 .3 in
-    let S = rw (not-false (s .result) (c .before .before .before .before .before .before .before .before .before .before .before .before
-    .if1 .left)) at (s .ensures) in
-    let wd = within-sum 64 d (S .0 .small) in
-    let wd′ = within-sum 64 d′ (S .1 .small) in
-    let k = c .before .before .before .before .before .before .before .before .before .second in
-    let e₀ = k .last .1 .1 .0 in
-    let ne₀ = k .kept .1 .1 .0 ∙ pr .1 .1 .1 in
-    let we₀ = second-within 64 (a .mark .now) d e₀ (k .ensures) (ne₀ ∙ sym (pr .0 .4)) wd in
-    let k′ = c .before .before .before .before .before .second2 in
-    let e₀′ = k′ .last .1 .1 .0 in
-    let ne₀′ = k′ .kept .1 .1 .0 ∙ pr .1 .1 .4 in
-    let we₀′ = second-within 64 (a .mark .now) d′ e₀′ (k′ .ensures) (ne₀′ ∙ sym (pr .0 .4)) wd′ in
-    let lx = long-between (length (a .low .now)) (length (chosen 2 (a .low .now) (a .mark .now))) _ (a .x .now) (omega (
-      arith,
-      pr .1 .0
-          .0,
-    )) (ap (λ (n : ℕ). length (a .low .now) + n) two) in
-    let ly = long-between (length (a .low .now)) (length (chosen 2 (a .low .now) (a .mark .now))) _ (a .y .now) (omega (
-      arith,
-      pr .1 .0
-          .0,
-      pr .1 .0 .1,
-    )) (ap (λ (n : ℕ). length (a .low .now) + n) two) in (
+    let n = length (a .low .now) in
+    let e = ap (λ (k : ℕ). n + k) (two t (c .before .before .before .before .before .before .before .before .before .before .before
+    .before .before .before .before .before .before .before .before .before)) in
+    let lx = long-between n (length (chosen 2 (a .low .now) (a .mark .now))) _ (a .x .now) (omega (arith, pr .1 .0 .0)) e in
+    let ly = long-between n (length (chosen 2 (a .low .now) (a .mark .now))) _ (a .y .now) (omega (arith, pr .1 .0 .0, pr .1 .0 .1)) e in (
       omega (arith, st .pre .0),
       (
         pr .0,
         (
-          (lx, ly ∙ sym lx, ne₀, ne₀′),
           (
-            within-between 64 (length (a .low .now)) (length (a .low .now) + sh .result) (a .x .now) (pr .1 .0 .2),
-            within-between 64 (length (a .low .now)) (length (a .low .now) + sh .result) (a .y .now) (pr .1 .0 .3),
-            within-more 64 128 e₀ (omega arith) we₀,
-            within-more 64 128 e₀′ (omega arith) we₀′,
+            lx,
+            ly ∙ sym lx,
+            c .before .before .before .before .before .before .before .before .before .second .kept .1 .1 .0 ∙ pr .1 .1 .1,
+            c .before .before .before .before .before .second2 .kept .1 .1 .0 ∙ pr .1 .1 .4,
+          ),
+          (
+            within-between 64 n (n + sh .result) (a .x .now) (pr .1 .0 .2),
+            within-between 64 n (n + sh .result) (a .y .now) (pr .1 .0 .3),
+            within-more 64 128 _ (omega arith) (small-0 t (c .before .before .before .before .before .before .before .before .before)),
+            within-more 64 128 _ (omega arith) (small-0′ t (c .before .before .before .before .before)),
           ),
         ),
       ),
@@ -359,34 +410,21 @@ find-moments-returns-2 t c =
     .before .before .before .before .before .before .before .before .before .before .before .before in
     let a = st .args in
     let pr = st .pre .1 in
-    let sh = c .before .before .before .before .before .before .before .before .before .before .before .before .before .before .before
-    .before .before .before .before .before .before .before .before .before .shared in
-    let two = sh .ensures ∙ rank-all 2 (a .low .now) (a .mark .now) (pr .0 .4) in
     let s = c .before .before .before .before .before .before .before .before .before .before .before .before .before .before .before
     .before .before .before .before .solve-pair in
-    let d = s .last .1 .1 .1 .1 .0 in
-    let d′ = s .last .1 .1 .1 .1 .1 .0 in
-    let nd = s .kept .1 .1 .1 .1 .0 ∙ pr .1 .1 .0 in
-    let nd′ = s .kept .1 .1 .1 .1 .1 .0 ∙ pr .1 .1 .3 in
-    let S = rw (not-false (s .result) (c .before .before .before .before .before .before .before .before .before .before .before .before
-    .before .before .before .before .if1 .left)) at (s .ensures) in
-    let wd = within-sum 64 d (S .0 .small) in
-    let wd′ = within-sum 64 d′ (S .1 .small) in
+    let S = firsts t (c .before .before .before .before .before .before .before .before .before .before .before .before .before .before
+    .before .before) in
     let k = c .before .before .before .before .before .before .before .before .before .before .before .before .before .second in
-    let e₀ = k .last .1 .1 .0 in
-    let ne₀ = k .kept .1 .1 .0 ∙ pr .1 .1 .1 in
-    let we₀ = second-within 64 (a .mark .now) d e₀ (k .ensures) (ne₀ ∙ sym (pr .0 .4)) wd in
     let k′ = c .before .before .before .before .before .before .before .before .before .second2 in
-    let e₀′ = k′ .last .1 .1 .0 in
-    let ne₀′ = k′ .kept .1 .1 .0 ∙ pr .1 .1 .4 in
-    let we₀′ = second-within 64 (a .mark .now) d′ e₀′ (k′ .ensures) (ne₀′ ∙ sym (pr .0 .4)) wd′ in
     let m = c .before .before .before .moment in
-    let e = m .last .1 .1 .1 .1 .1 .1 .0 in
-    let e′ = m .last .1 .1 .1 .1 .1 .1 .1 .0 in
-    let ne = m .kept .1 .1 .1 .1 .1 .1 .0 ∙ ne₀ in
-    let ne′ = m .kept .1 .1 .1 .1 .1 .1 .1 .0 ∙ ne₀′ in
-    none-second (a .i) (a .low .now) (a .mark .now) (a .x .now) (a .y .now) d d′ e₀ e₀′ (S .0) (S .1) ne₀ ne₀′ (k .ensures) (k′ .ensures)
-    (rw (two, not-true (m .result) (c .if2 .taken)) at (m .ensures))
+    none-second (a .i) (a .low .now) (a .mark .now) (a .x .now) (a .y .now) (s .last .1 .1 .1 .1 .0) (s .last .1 .1 .1 .1 .1 .0)
+    (k .last .1 .1 .0) (k′ .last .1 .1 .0) (S .0) (S .1) (k .kept .1 .1 .0 ∙ pr .1 .1 .1) (k′ .kept .1 .1 .0 ∙ pr .1 .1 .4) (k .ensures)
+    (k′ .ensures)
+    (rw (
+      two t (c .before .before .before .before .before .before .before .before .before .before .before .before .before .before .before
+          .before .before .before .before .before .before .before .before .before),
+      not-true (m .result) (c .if2 .taken),
+    ) at (m .ensures))
 
 find-moments-third-requires : (t : ℕ) → find-moments-lts.Need-third-requires (find-moments-calls t) (find-moments-at t) find-moments.Post
 find-moments-third-requires t c κs =
@@ -394,39 +432,13 @@ find-moments-third-requires t c κs =
     .before .before .before .before .before .before .before .before .before .before .before .before .before .before .before in
     let a = st .args in
     let pr = st .pre .1 in
-    let sh = c .before .before .before .before .before .before .before .before .before .before .before .before .before .before .before
-    .before .before .before .before .before .before .before .before .before .before .before .before .shared in
-    let two = sh .ensures ∙ rank-all 2 (a .low .now) (a .mark .now) (pr .0 .4) in
     let s = c .before .before .before .before .before .before .before .before .before .before .before .before .before .before .before
-    .before .before .before .before .before .before .before .solve-pair in
-    let d = s .last .1 .1 .1 .1 .0 in
-    let d′ = s .last .1 .1 .1 .1 .1 .0 in
-    let nd = s .kept .1 .1 .1 .1 .0 ∙ pr .1 .1 .0 in
-    let nd′ = s .kept .1 .1 .1 .1 .1 .0 ∙ pr .1 .1 .3 in
-    let S = rw (not-false (s .result) (c .before .before .before .before .before .before .before .before .before .before .before .before
-    .before .before .before .before .before .before .before .if1 .left)) at (s .ensures) in
-    let wd = within-sum 64 d (S .0 .small) in
-    let wd′ = within-sum 64 d′ (S .1 .small) in
-    let k = c .before .before .before .before .before .before .before .before .before .before .before .before .before .before .before
-    .before .second in
-    let e₀ = k .last .1 .1 .0 in
-    let ne₀ = k .kept .1 .1 .0 ∙ pr .1 .1 .1 in
-    let we₀ = second-within 64 (a .mark .now) d e₀ (k .ensures) (ne₀ ∙ sym (pr .0 .4)) wd in
-    let k′ = c .before .before .before .before .before .before .before .before .before .before .before .before .second2 in
-    let e₀′ = k′ .last .1 .1 .0 in
-    let ne₀′ = k′ .kept .1 .1 .0 ∙ pr .1 .1 .4 in
-    let we₀′ = second-within 64 (a .mark .now) d′ e₀′ (k′ .ensures) (ne₀′ ∙ sym (pr .0 .4)) wd′ in
-    let m = c .before .before .before .before .before .before .moment in
-    let e = m .last .1 .1 .1 .1 .1 .1 .0 in
-    let e′ = m .last .1 .1 .1 .1 .1 .1 .1 .0 in
-    let ne = m .kept .1 .1 .1 .1 .1 .1 .0 ∙ ne₀ in
-    let ne′ = m .kept .1 .1 .1 .1 .1 .1 .1 .0 ∙ ne₀′ in
-    let M = rw (two, not-false (m .result) (c .before .before .before .if2 .left)) at (m .ensures) in
-    let we = spread-within 64 2 (a .mark .now) (M .0 .0) e₀ e (M .0 .2) (ne ∙ sym (pr .0 .4)) we₀ (within-sum 64 (M .0 .0) (M .0 .1
-    .small)) in
-    let we′ = spread-within 64 2 (a .mark .now) (M .1 .0) e₀′ e′ (M .1 .2) (ne′ ∙ sym (pr .0 .4)) we₀′ (within-sum 64 (M .1 .0) (M .1 .1
-    .small)) in
-    (nd ∙ sym (pr .0 .4), ne ∙ sym (pr .0 .4), pr .1 .1 .2 ∙ sym (pr .0 .4), within-more 128 256 e (omega arith) we)
+    .before .before .before .before .before .before .before .solve-pair in (
+      s .kept .1 .1 .1 .1 .0 ∙ pr .1 .1 .0 ∙ sym (pr .0 .4),
+      long t (c .before .before .before .before .before .before) ∙ sym (pr .0 .4),
+      pr .1 .1 .2 ∙ sym (pr .0 .4),
+      within-more 128 256 _ (omega arith) (small t (c .before .before .before)),
+    )
 
 find-moments-third-requires-2 : (t : ℕ) → find-moments-lts.Need-third-requires-2 (find-moments-calls t) (find-moments-at t)
     find-moments.Post
@@ -436,42 +448,13 @@ find-moments-third-requires-2 t c κs =
     .before .before .before .before in
     let a = st .args in
     let pr = st .pre .1 in
-    let sh = c .before .before .before .before .before .before .before .before .before .before .before .before .before .before .before
-    .before .before .before .before .before .before .before .before .before .before .before .before .before .before .before .before
-    .before .shared in
-    let two = sh .ensures ∙ rank-all 2 (a .low .now) (a .mark .now) (pr .0 .4) in
     let s = c .before .before .before .before .before .before .before .before .before .before .before .before .before .before .before
-    .before .before .before .before .before .before .before .before .before .before .before .before .solve-pair in
-    let d = s .last .1 .1 .1 .1 .0 in
-    let d′ = s .last .1 .1 .1 .1 .1 .0 in
-    let nd = s .kept .1 .1 .1 .1 .0 ∙ pr .1 .1 .0 in
-    let nd′ = s .kept .1 .1 .1 .1 .1 .0 ∙ pr .1 .1 .3 in
-    let S = rw (not-false (s .result) (c .before .before .before .before .before .before .before .before .before .before .before .before
-    .before .before .before .before .before .before .before .before .before .before .before .before .if1 .left)) at (s .ensures) in
-    let wd = within-sum 64 d (S .0 .small) in
-    let wd′ = within-sum 64 d′ (S .1 .small) in
-    let k = c .before .before .before .before .before .before .before .before .before .before .before .before .before .before .before
-    .before .before .before .before .before .before .second in
-    let e₀ = k .last .1 .1 .0 in
-    let ne₀ = k .kept .1 .1 .0 ∙ pr .1 .1 .1 in
-    let we₀ = second-within 64 (a .mark .now) d e₀ (k .ensures) (ne₀ ∙ sym (pr .0 .4)) wd in
-    let k′ = c .before .before .before .before .before .before .before .before .before .before .before .before .before .before .before
-    .before .before .second2 in
-    let e₀′ = k′ .last .1 .1 .0 in
-    let ne₀′ = k′ .kept .1 .1 .0 ∙ pr .1 .1 .4 in
-    let we₀′ = second-within 64 (a .mark .now) d′ e₀′ (k′ .ensures) (ne₀′ ∙ sym (pr .0 .4)) wd′ in
-    let m = c .before .before .before .before .before .before .before .before .before .before .before .moment in
-    let e = m .last .1 .1 .1 .1 .1 .1 .0 in
-    let e′ = m .last .1 .1 .1 .1 .1 .1 .1 .0 in
-    let ne = m .kept .1 .1 .1 .1 .1 .1 .0 ∙ ne₀ in
-    let ne′ = m .kept .1 .1 .1 .1 .1 .1 .1 .0 ∙ ne₀′ in
-    let M = rw (two, not-false (m .result) (c .before .before .before .before .before .before .before .before .if2 .left)) at (m
-    .ensures) in
-    let we = spread-within 64 2 (a .mark .now) (M .0 .0) e₀ e (M .0 .2) (ne ∙ sym (pr .0 .4)) we₀ (within-sum 64 (M .0 .0) (M .0 .1
-    .small)) in
-    let we′ = spread-within 64 2 (a .mark .now) (M .1 .0) e₀′ e′ (M .1 .2) (ne′ ∙ sym (pr .0 .4)) we₀′ (within-sum 64 (M .1 .0) (M .1 .1
-    .small)) in
-    (nd′ ∙ sym (pr .0 .4), ne′ ∙ sym (pr .0 .4), pr .1 .1 .5 ∙ sym (pr .0 .4), within-more 128 256 e′ (omega arith) we′)
+    .before .before .before .before .before .before .before .before .before .before .before .before .solve-pair in (
+      s .kept .1 .1 .1 .1 .1 .0 ∙ pr .1 .1 .3 ∙ sym (pr .0 .4),
+      long′ t (c .before .before .before .before .before .before .before .before .before .before .before) ∙ sym (pr .0 .4),
+      pr .1 .1 .5 ∙ sym (pr .0 .4),
+      within-more 128 256 _ (omega arith) (small′ t (c .before .before .before .before .before .before .before .before)),
+    )
 
 find-moments-mul-moment-3 : (t : ℕ) → find-moments-lts.Need-mul-moment-3 (find-moments-calls t) (find-moments-at t) find-moments.Post
 find-moments-mul-moment-3 t c =
@@ -480,11 +463,14 @@ find-moments-mul-moment-3 t c =
     .before .before .before .before .before .before in
     let a = st .args in
     let pr = st .pre .1 in
-    let sh = c .before .before .before .before .before .before .before .before .before .before .before .before .before .before .before
-    .before .before .before .before .before .before .before .before .before .before .before .before .before .before .before .before
-    .before .before .before .shared in
-    let two = sh .ensures ∙ rank-all 2 (a .low .now) (a .mark .now) (pr .0 .4) in
-    omega (arith, two, chosen-length 2 (a .low .now) (a .mark .now), pr .0 .3)
+    omega (
+      arith,
+      two t (c .before .before .before .before .before .before .before .before .before .before .before .before .before
+          .before .before .before .before .before .before .before .before .before .before .before .before .before .before .before .before
+          .before .before .before .before .before),
+      chosen-length 2 (a .low .now) (a .mark .now),
+      pr .0 .3,
+    )
 
 find-moments-sub-moment-3 : (t : ℕ) → find-moments-lts.Need-sub-moment-3 (find-moments-calls t) (find-moments-at t) find-moments.Post
 find-moments-sub-moment-3 t c =
@@ -493,11 +479,14 @@ find-moments-sub-moment-3 t c =
     .before .before .before .before .before .before in
     let a = st .args in
     let pr = st .pre .1 in
-    let sh = c .before .before .before .before .before .before .before .before .before .before .before .before .before .before .before
-    .before .before .before .before .before .before .before .before .before .before .before .before .before .before .before .before
-    .before .before .before .shared in
-    let two = sh .ensures ∙ rank-all 2 (a .low .now) (a .mark .now) (pr .0 .4) in
-    omega (arith, two, pr .1 .0 .0, pr .1 .0 .1)
+    omega (
+      arith,
+      two t (c .before .before .before .before .before .before .before .before .before .before .before .before .before
+          .before .before .before .before .before .before .before .before .before .before .before .before .before .before .before .before
+          .before .before .before .before .before),
+      pr .1 .0 .0,
+      pr .1 .0 .1,
+    )
 
 find-moments-part-moment-start-3 : (t : ℕ) → find-moments-lts.Need-part-moment-start-3 (find-moments-calls t) (find-moments-at t)
     find-moments.Post
@@ -507,11 +496,14 @@ find-moments-part-moment-start-3 t c =
     .before .before .before .before .before .before in
     let a = st .args in
     let pr = st .pre .1 in
-    let sh = c .before .before .before .before .before .before .before .before .before .before .before .before .before .before .before
-    .before .before .before .before .before .before .before .before .before .before .before .before .before .before .before .before
-    .before .before .before .shared in
-    let two = sh .ensures ∙ rank-all 2 (a .low .now) (a .mark .now) (pr .0 .4) in
-    omega (arith, two, pr .1 .0 .0, pr .1 .0 .1)
+    omega (
+      arith,
+      two t (c .before .before .before .before .before .before .before .before .before .before .before .before .before
+          .before .before .before .before .before .before .before .before .before .before .before .before .before .before .before .before
+          .before .before .before .before .before),
+      pr .1 .0 .0,
+      pr .1 .0 .1,
+    )
 
 find-moments-mul-moment-4 : (t : ℕ) → find-moments-lts.Need-mul-moment-4 (find-moments-calls t) (find-moments-at t) find-moments.Post
 find-moments-mul-moment-4 t c =
@@ -520,11 +512,14 @@ find-moments-mul-moment-4 t c =
     .before .before .before .before .before .before .before in
     let a = st .args in
     let pr = st .pre .1 in
-    let sh = c .before .before .before .before .before .before .before .before .before .before .before .before .before .before .before
-    .before .before .before .before .before .before .before .before .before .before .before .before .before .before .before .before
-    .before .before .before .before .shared in
-    let two = sh .ensures ∙ rank-all 2 (a .low .now) (a .mark .now) (pr .0 .4) in
-    omega (arith, two, chosen-length 2 (a .low .now) (a .mark .now), pr .0 .3)
+    omega (
+      arith,
+      two t (c .before .before .before .before .before .before .before .before .before .before .before .before .before
+          .before .before .before .before .before .before .before .before .before .before .before .before .before .before .before .before
+          .before .before .before .before .before .before),
+      chosen-length 2 (a .low .now) (a .mark .now),
+      pr .0 .3,
+    )
 
 find-moments-sub-moment-4 : (t : ℕ) → find-moments-lts.Need-sub-moment-4 (find-moments-calls t) (find-moments-at t) find-moments.Post
 find-moments-sub-moment-4 t c =
@@ -533,11 +528,14 @@ find-moments-sub-moment-4 t c =
     .before .before .before .before .before .before .before in
     let a = st .args in
     let pr = st .pre .1 in
-    let sh = c .before .before .before .before .before .before .before .before .before .before .before .before .before .before .before
-    .before .before .before .before .before .before .before .before .before .before .before .before .before .before .before .before
-    .before .before .before .before .shared in
-    let two = sh .ensures ∙ rank-all 2 (a .low .now) (a .mark .now) (pr .0 .4) in
-    omega (arith, two, pr .1 .0 .0, pr .1 .0 .1)
+    omega (
+      arith,
+      two t (c .before .before .before .before .before .before .before .before .before .before .before .before .before
+          .before .before .before .before .before .before .before .before .before .before .before .before .before .before .before .before
+          .before .before .before .before .before .before),
+      pr .1 .0 .0,
+      pr .1 .0 .1,
+    )
 
 find-moments-part-moment-start-4 : (t : ℕ) → find-moments-lts.Need-part-moment-start-4 (find-moments-calls t) (find-moments-at t)
     find-moments.Post
@@ -547,11 +545,14 @@ find-moments-part-moment-start-4 t c =
     .before .before .before .before .before .before .before in
     let a = st .args in
     let pr = st .pre .1 in
-    let sh = c .before .before .before .before .before .before .before .before .before .before .before .before .before .before .before
-    .before .before .before .before .before .before .before .before .before .before .before .before .before .before .before .before
-    .before .before .before .before .shared in
-    let two = sh .ensures ∙ rank-all 2 (a .low .now) (a .mark .now) (pr .0 .4) in
-    omega (arith, two, pr .1 .0 .0, pr .1 .0 .1)
+    omega (
+      arith,
+      two t (c .before .before .before .before .before .before .before .before .before .before .before .before .before
+          .before .before .before .before .before .before .before .before .before .before .before .before .before .before .before .before
+          .before .before .before .before .before .before),
+      pr .1 .0 .0,
+      pr .1 .0 .1,
+    )
 
 find-moments-moment-requires-2 : (t : ℕ) → find-moments-lts.Need-moment-requires-2 (find-moments-calls t) (find-moments-at t)
     find-moments.Post
@@ -561,78 +562,46 @@ find-moments-moment-requires-2 t c κs =
     .before .before .before .before .before .before .before .before .before .before in
     let a = st .args in
     let pr = st .pre .1 in
-    let sh = c .before .before .before .before .before .before .before .before .before .before .before .before .before .before .before
-    .before .before .before .before .before .before .before .before .before .before .before .before .before .before .before .before
-    .before .before .before .before .before .before .before .shared in
-    let two = sh .ensures ∙ rank-all 2 (a .low .now) (a .mark .now) (pr .0 .4) in
-    let s = c .before .before .before .before .before .before .before .before .before .before .before .before .before .before .before
-    .before .before .before .before .before .before .before .before .before .before .before .before .before .before .before .before
-    .before .before .solve-pair in
-    let d = s .last .1 .1 .1 .1 .0 in
-    let d′ = s .last .1 .1 .1 .1 .1 .0 in
-    let nd = s .kept .1 .1 .1 .1 .0 ∙ pr .1 .1 .0 in
-    let nd′ = s .kept .1 .1 .1 .1 .1 .0 ∙ pr .1 .1 .3 in
-    let S = rw (not-false (s .result) (c .before .before .before .before .before .before .before .before .before .before .before .before
-    .before .before .before .before .before .before .before .before .before .before .before .before .before .before .before .before
-    .before .before .if1 .left)) at (s .ensures) in
-    let wd = within-sum 64 d (S .0 .small) in
-    let wd′ = within-sum 64 d′ (S .1 .small) in
-    let k = c .before .before .before .before .before .before .before .before .before .before .before .before .before .before .before
-    .before .before .before .before .before .before .before .before .before .before .before .before .second in
-    let e₀ = k .last .1 .1 .0 in
-    let ne₀ = k .kept .1 .1 .0 ∙ pr .1 .1 .1 in
-    let we₀ = second-within 64 (a .mark .now) d e₀ (k .ensures) (ne₀ ∙ sym (pr .0 .4)) wd in
-    let k′ = c .before .before .before .before .before .before .before .before .before .before .before .before .before .before .before
-    .before .before .before .before .before .before .before .before .second2 in
-    let e₀′ = k′ .last .1 .1 .0 in
-    let ne₀′ = k′ .kept .1 .1 .0 ∙ pr .1 .1 .4 in
-    let we₀′ = second-within 64 (a .mark .now) d′ e₀′ (k′ .ensures) (ne₀′ ∙ sym (pr .0 .4)) wd′ in
-    let m = c .before .before .before .before .before .before .before .before .before .before .before .before .before .before .before
-    .before .before .moment in
-    let e = m .last .1 .1 .1 .1 .1 .1 .0 in
-    let e′ = m .last .1 .1 .1 .1 .1 .1 .1 .0 in
-    let ne = m .kept .1 .1 .1 .1 .1 .1 .0 ∙ ne₀ in
-    let ne′ = m .kept .1 .1 .1 .1 .1 .1 .1 .0 ∙ ne₀′ in
-    let M = rw (
-      two,
-      not-false (m .result) (c .before .before .before .before .before .before .before .before .before .before .before
-          .before .before .before .if2 .left),
-    ) at (m .ensures) in
-    let we = spread-within 64 2 (a .mark .now) (M .0 .0) e₀ e (M .0 .2) (ne ∙ sym (pr .0 .4)) we₀ (within-sum 64 (M .0 .0) (M .0 .1
-    .small)) in
-    let we′ = spread-within 64 2 (a .mark .now) (M .1 .0) e₀′ e′ (M .1 .2) (ne′ ∙ sym (pr .0 .4)) we₀′ (within-sum 64 (M .1 .0) (M .1 .1
-    .small)) in
+    let S = firsts t (c .before .before .before .before .before .before .before .before .before .before .before .before .before .before
+    .before .before .before .before .before .before .before .before .before .before .before .before .before .before .before .before) in
     let h = c .before .before .before .before .before .before .before .before .before .before .third in
-    let g₀ = h .last .1 .1 .1 .0 in
-    let ng₀ = h .kept .1 .1 .1 .0 ∙ pr .1 .1 .2 in
     let h′ = c .before .before .before .before .before .third2 in
-    let g₀′ = h′ .last .1 .1 .1 .0 in
-    let ng₀′ = h′ .kept .1 .1 .1 .0 ∙ pr .1 .1 .5 in
-    let lx = long-rest (length (a .low .now) + sh .result) (length (chosen 3 (a .low .now) (a .mark .now))) (a .x .now) (omega (
+    let n = length (a .low .now) + c .before .before .before .before .before .before .before .before .before .before .before .before
+    .before .before .before .before .before .before .before .before .before .before .before .before .before .before .before .before
+    .before .before .before .before .before .before .before .before .before .before .shared .result in
+    let lx = long-rest n (length (chosen 3 (a .low .now) (a .mark .now))) (a .x .now) (omega (
       arith,
-      two,
+      two t (c .before .before .before
+          .before .before .before .before .before .before .before .before .before .before .before .before .before .before .before .before
+          .before .before .before .before .before .before .before .before .before .before .before .before .before .before .before .before
+          .before .before .before),
       pr .1 .0 .0,
     )) in
-    let ly = long-rest (length (a .low .now) + sh .result) (length (chosen 3 (a .low .now) (a .mark .now))) (a .y .now) (omega (
+    let ly = long-rest n (length (chosen 3 (a .low .now) (a .mark .now))) (a .y .now) (omega (
       arith,
-      two,
+      two t (c .before .before .before
+          .before .before .before .before .before .before .before .before .before .before .before .before .before .before .before .before
+          .before .before .before .before .before .before .before .before .before .before .before .before .before .before .before .before
+          .before .before .before),
       pr .1 .0 .0,
       pr .1 .0 .1,
     )) in
-    let wg = third-within 128 (a .mark .now) d e g₀ (h .ensures) (ng₀ ∙ sym (pr .0 .4)) (within-more 64 128 d (omega arith) wd) we in
-    let wg′ = third-within 128 (a .mark .now) d′ e′ g₀′ (h′ .ensures) (ng₀′ ∙ sym (pr .0 .4)) (within-more 64 128 d′ (omega arith) wd′)
-    we′ in (
+    let l = h .kept .1 .1 .1 .0 ∙ pr .1 .1 .2 in
+    let l′ = h′ .kept .1 .1 .1 .0 ∙ pr .1 .1 .5 in (
       omega (arith, st .pre .0),
       (
         pr .0,
         (
-          (lx, ly ∙ sym lx, ng₀, ng₀′),
+          (lx, ly ∙ sym lx, l, l′),
           (
-            within-between 64 (length (a .low .now) + sh .result) (length (a .x .now)) (a .x .now) (pr .1 .0 .2),
-            within-between 64
-                (length (a .low .now) + sh .result) (length (a .y .now)) (a .y .now) (pr .1 .0 .3),
-            wg,
-            wg′,
+            within-between 64 n (length (a .x .now)) (a .x .now) (pr .1 .0 .2),
+            within-between 64 n (length (a .y .now)) (a .y .now) (pr .1 .0 .3),
+            third-within 128 _ _ _ (h .last .1 .1 .1 .0) (h .ensures) (l ∙ sym (pr .0 .4))
+                (within-more 64 128 _ (omega arith) (within-sum 64 _ (S .0 .small))) (small t (c .before .before .before .before .before
+                .before .before .before .before .before .before .before .before .before)),
+            third-within 128 _ _ _ (h′ .last .1 .1 .1 .0) (h′ .ensures) (l′ ∙ sym (pr .0 .4))
+                (within-more 64 128 _ (omega arith) (within-sum 64 _ (S .1 .small))) (small′ t (c .before .before .before .before .before
+                .before .before .before .before .before .before .before .before .before)),
           ),
         ),
       ),
@@ -645,58 +614,64 @@ find-moments-returns-3 t c =
     .before .before .before .before .before .before .before .before .before .before .before .before .before in
     let a = st .args in
     let pr = st .pre .1 in
-    let sh = c .before .before .before .before .before .before .before .before .before .before .before .before .before .before .before
-    .before .before .before .before .before .before .before .before .before .before .before .before .before .before .before .before
-    .before .before .before .before .before .before .before .before .before .before .shared in
-    let two = sh .ensures ∙ rank-all 2 (a .low .now) (a .mark .now) (pr .0 .4) in
     let s = c .before .before .before .before .before .before .before .before .before .before .before .before .before .before .before
     .before .before .before .before .before .before .before .before .before .before .before .before .before .before .before .before
     .before .before .before .before .before .solve-pair in
-    let d = s .last .1 .1 .1 .1 .0 in
-    let d′ = s .last .1 .1 .1 .1 .1 .0 in
-    let nd = s .kept .1 .1 .1 .1 .0 ∙ pr .1 .1 .0 in
-    let nd′ = s .kept .1 .1 .1 .1 .1 .0 ∙ pr .1 .1 .3 in
-    let S = rw (not-false (s .result) (c .before .before .before .before .before .before .before .before .before .before .before .before
+    let S = firsts t (c .before .before .before .before .before .before .before .before .before .before .before .before .before .before
     .before .before .before .before .before .before .before .before .before .before .before .before .before .before .before .before
-    .before .before .before .before .before .if1 .left)) at (s .ensures) in
-    let wd = within-sum 64 d (S .0 .small) in
-    let wd′ = within-sum 64 d′ (S .1 .small) in
+    .before .before .before) in
     let k = c .before .before .before .before .before .before .before .before .before .before .before .before .before .before .before
     .before .before .before .before .before .before .before .before .before .before .before .before .before .before .before .second in
-    let e₀ = k .last .1 .1 .0 in
-    let ne₀ = k .kept .1 .1 .0 ∙ pr .1 .1 .1 in
-    let we₀ = second-within 64 (a .mark .now) d e₀ (k .ensures) (ne₀ ∙ sym (pr .0 .4)) wd in
     let k′ = c .before .before .before .before .before .before .before .before .before .before .before .before .before .before .before
     .before .before .before .before .before .before .before .before .before .before .before .second2 in
-    let e₀′ = k′ .last .1 .1 .0 in
-    let ne₀′ = k′ .kept .1 .1 .0 ∙ pr .1 .1 .4 in
-    let we₀′ = second-within 64 (a .mark .now) d′ e₀′ (k′ .ensures) (ne₀′ ∙ sym (pr .0 .4)) wd′ in
     let m = c .before .before .before .before .before .before .before .before .before .before .before .before .before .before .before
     .before .before .before .before .before .moment in
-    let e = m .last .1 .1 .1 .1 .1 .1 .0 in
-    let e′ = m .last .1 .1 .1 .1 .1 .1 .1 .0 in
-    let ne = m .kept .1 .1 .1 .1 .1 .1 .0 ∙ ne₀ in
-    let ne′ = m .kept .1 .1 .1 .1 .1 .1 .1 .0 ∙ ne₀′ in
-    let M = rw (
-      two,
-      not-false (m .result) (c .before .before .before .before .before .before .before .before .before .before .before
-          .before .before .before .before .before .before .if2 .left),
-    ) at (m .ensures) in
-    let we = spread-within 64 2 (a .mark .now) (M .0 .0) e₀ e (M .0 .2) (ne ∙ sym (pr .0 .4)) we₀ (within-sum 64 (M .0 .0) (M .0 .1
-    .small)) in
-    let we′ = spread-within 64 2 (a .mark .now) (M .1 .0) e₀′ e′ (M .1 .2) (ne′ ∙ sym (pr .0 .4)) we₀′ (within-sum 64 (M .1 .0) (M .1 .1
-    .small)) in
+    let M = seconds t (c .before .before .before .before .before .before .before .before .before .before .before .before .before .before
+    .before .before .before) in
     let h = c .before .before .before .before .before .before .before .before .before .before .before .before .before .third in
-    let g₀ = h .last .1 .1 .1 .0 in
-    let ng₀ = h .kept .1 .1 .1 .0 ∙ pr .1 .1 .2 in
     let h′ = c .before .before .before .before .before .before .before .before .third2 in
-    let g₀′ = h′ .last .1 .1 .1 .0 in
-    let ng₀′ = h′ .kept .1 .1 .1 .0 ∙ pr .1 .1 .5 in
-    let t = c .before .before .moment2 in
-    with-third (a .i) (a .low .now) (a .mark .now) (a .x .now) (a .y .now) d d′ e₀ e₀′ (S .0) (S .1) ne₀ ne₀′ (k .ensures) (k′ .ensures)
-    (M .0 .0) (M .1 .0) e e′ g₀ g₀′ (M .0 .1) (M .1 .1) ne ne′ (M .0 .2) (M .1 .2) ng₀ ng₀′ (h .ensures) (h′ .ensures)
-    (t .last .1 .1 .1 .1 .1 .1 .0) (t .last .1 .1 .1 .1 .1 .1 .1 .0) (t .result) (t .kept .1 .1 .1 .1 .1 .1 .0 ∙ ng₀) (t .kept .1 .1 .1
-    .1 .1 .1 .1 .0 ∙ ng₀′) (rw two at (t .ensures))
+    let r = c .before .before .moment2 in
+    let l = h .kept .1 .1 .1 .0 ∙ pr .1 .1 .2 in
+    let l′ = h′ .kept .1 .1 .1 .0 ∙ pr .1 .1 .5 in
+    with-third (a .i) (a .low .now) (a .mark .now) (a .x .now) (a .y .now) (s .last .1 .1 .1 .1 .0) (s .last .1 .1 .1 .1 .1 .0)
+    (k .last .1 .1 .0) (k′ .last .1 .1 .0) (S .0) (S .1) (k .kept .1 .1 .0 ∙ pr .1 .1 .1) (k′ .kept .1 .1 .0 ∙ pr .1 .1 .4) (k .ensures)
+    (k′ .ensures)
+    (M .0 .0) (M .1 .0) (m .last .1 .1 .1 .1 .1 .1 .0) (m .last .1 .1 .1 .1 .1 .1 .1 .0) (h .last .1 .1 .1 .0) (h′ .last .1 .1 .1 .0) (M
+    .0 .1) (M .1 .1)
+    (long t (c .before .before .before .before .before .before .before .before .before .before .before .before .before .before .before
+    .before .before .before .before .before)) (long′ t (c .before .before .before .before .before .before .before .before .before
+    .before .before .before .before .before .before .before .before .before .before .before)) (M .0 .2) (M .1 .2) l l′ (h .ensures)
+    (h′ .ensures)
+    (r .last .1 .1 .1 .1 .1 .1 .0) (r .last .1 .1 .1 .1 .1 .1 .1 .0) (r .result) (r .kept .1 .1 .1 .1 .1 .1 .0 ∙ l) (r .kept .1 .1 .1 .1
+    .1 .1 .1 .0 ∙ l′) (rw (two t (c .before .before .before .before .before .before .before .before .before .before .before .before
+    .before .before .before .before .before .before .before .before .before .before .before .before .before .before .before .before
+    .before .before .before .before .before .before .before .before .before .before .before .before .before)) at (r .ensures))
+
+-- ---- what `moment` holds
+
+few : (t : ℕ) (st : moment-lts.Start (moment-calls t) (moment-at t) moment.Post) → length (st .args .x .now) ≤ 64
+few t st =
+    let pr = st .pre .1 in
+    omega (arith, pr .1 .0 .0, chosen-length (st .args .k) (st .args .low .now) (st .args .mark .now), pr .0 .3)
+
+-- the patterns with as many signs, at the front of their array
+listed : (t : ℕ) (c : moment-lts.After-having (moment-calls t) (moment-at t) moment.Post) →
+    let a = c .before .before .before .before .before .args in
+    take (length (a .x .now)) (c .having .last .1 .1 .1 .0) ≡ chosen (a .k) (a .low .now) (a .mark .now)
+listed t c =
+    let st = c .before .before .before .before .before in
+    front-list (chosen (st .args .k) (st .args .low .now) (st .args .mark .now)) _ _ (length (st .args .x .now)) (st .pre .1 .1 .0 .0)
+    (few t st) (c .having .ensures .1)
+
+-- what remains is as long as what is asked, in both systems
+rests : (t : ℕ) (c : moment-lts.After-residuals (moment-calls t) (moment-at t) moment.Post) →
+    let n = length (c .before .before .before .before .before .before .before .before .before .before .before .before .args .x .now) in
+    (length (c .residuals .last .1 .1 .1 .1 .1 .1 .1 .0) ≡ n) × (length (c .residuals .last .1 .1 .1 .1 .1 .1 .1 .1 .0) ≡ n)
+rests t c =
+    let f = length-take-le _ _ (few t (c .before .before .before .before .before .before .before .before .before .before .before
+    .before)) in
+    let q = c .residuals in
+    (q .kept .1 .1 .1 .1 .1 .1 .1 .0 ∙ f, q .kept .1 .1 .1 .1 .1 .1 .1 .1 .0 ∙ f)
 
 moment-returns : (t : ℕ) → moment-lts.Need-returns (moment-calls t) (moment-at t) moment.Post
 moment-returns t c =
@@ -704,81 +679,22 @@ moment-returns t c =
     let a = st .args in
     let pr = st .pre .1 in
     let L = chosen (a .k) (a .low .now) (a .mark .now) in
-    let few : length (a .x .now) ≤ 64 = omega (arith, pr .1 .0 .0, chosen-length (a .k) (a .low .now) (a .mark .now), pr .0 .3) in
     let z : length L ≡ 0 = omega (arith, c .if1 .taken, pr .1 .0 .0) in
     moment-none (a .i) L (a .mark .now) (a .k) _ _ (a .v .now) (a .w .now) z
     (residuals-none (a .i) L (a .low .now) (a .v .now) (a .x .now) z) (residuals-none (a .i) L (a .low .now) (a .w .now) (a .y .now) z)
-
-moment-array-share-prefix-l : (t : ℕ) → moment-lts.Need-array-share-prefix-l (moment-calls t) (moment-at t) moment.Post
-moment-array-share-prefix-l t c =
-    let st = c .before .before .before .before .before .before in
-    let a = st .args in
-    let pr = st .pre .1 in
-    let L = chosen (a .k) (a .low .now) (a .mark .now) in
-    let few : length (a .x .now) ≤ 64 = omega (arith, pr .1 .0 .0, chosen-length (a .k) (a .low .now) (a .mark .now), pr .0 .3) in
-    omega (arith, few, c .before .having .kept .1 .1 .1 .0)
-
-moment-slice-aggregate-residuals : (t : ℕ) → moment-lts.Need-slice-aggregate-residuals (moment-calls t) (moment-at t) moment.Post
-moment-slice-aggregate-residuals t c =
-    let st = c .before .before .before .before .before .before .before in
-    let a = st .args in
-    let pr = st .pre .1 in
-    let L = chosen (a .k) (a .low .now) (a .mark .now) in
-    let few : length (a .x .now) ≤ 64 = omega (arith, pr .1 .0 .0, chosen-length (a .k) (a .low .now) (a .mark .now), pr .0 .3) in
-    sym (length-take-le _ _ (omega (arith, few, c .before .before .having .kept .1 .1 .1 .0)))
-
-moment-array-borrow-prefix-r : (t : ℕ) → moment-lts.Need-array-borrow-prefix-r (moment-calls t) (moment-at t) moment.Post
-moment-array-borrow-prefix-r t c =
-    let st = c .before .before .before .before .before .before .before .before .before in
-    let a = st .args in
-    let pr = st .pre .1 in
-    let L = chosen (a .k) (a .low .now) (a .mark .now) in
-    let few : length (a .x .now) ≤ 64 = omega (arith, pr .1 .0 .0, chosen-length (a .k) (a .low .now) (a .mark .now), pr .0 .3) in
-    few
-
-moment-slice-aggregate-residuals-2 : (t : ℕ) → moment-lts.Need-slice-aggregate-residuals-2 (moment-calls t) (moment-at t) moment.Post
-moment-slice-aggregate-residuals-2 t c =
-    let st = c .before .before .before .before .before .before .before .before .before .before in
-    let a = st .args in
-    let pr = st .pre .1 in
-    let L = chosen (a .k) (a .low .now) (a .mark .now) in
-    let few : length (a .x .now) ≤ 64 = omega (arith, pr .1 .0 .0, chosen-length (a .k) (a .low .now) (a .mark .now), pr .0 .3) in
-    sym (length-take-le _ _ few)
-
-moment-array-borrow-prefix-t : (t : ℕ) → moment-lts.Need-array-borrow-prefix-t (moment-calls t) (moment-at t) moment.Post
-moment-array-borrow-prefix-t t c =
-    let st = c .before .before .before .before .before .before .before .before .before .before in
-    let a = st .args in
-    let pr = st .pre .1 in
-    let L = chosen (a .k) (a .low .now) (a .mark .now) in
-    let few : length (a .x .now) ≤ 64 = omega (arith, pr .1 .0 .0, chosen-length (a .k) (a .low .now) (a .mark .now), pr .0 .3) in
-    few
-
-moment-slice-aggregate-residuals-3 : (t : ℕ) → moment-lts.Need-slice-aggregate-residuals-3 (moment-calls t) (moment-at t) moment.Post
-moment-slice-aggregate-residuals-3 t c =
-    let st = c .before .before .before .before .before .before .before .before .before .before .before in
-    let a = st .args in
-    let pr = st .pre .1 in
-    let L = chosen (a .k) (a .low .now) (a .mark .now) in
-    let few : length (a .x .now) ≤ 64 = omega (arith, pr .1 .0 .0, chosen-length (a .k) (a .low .now) (a .mark .now), pr .0 .3) in
-    sym (length-take-le _ _ few)
 
 moment-residuals-requires : (t : ℕ) → moment-lts.Need-residuals-requires (moment-calls t) (moment-at t) moment.Post
 moment-residuals-requires t c κs =
     let st = c .before .before .before .before .before .before .before .before .before .before .before in
     let a = st .args in
     let pr = st .pre .1 in
-    let L = chosen (a .k) (a .low .now) (a .mark .now) in
-    let few : length (a .x .now) ≤ 64 = omega (arith, pr .1 .0 .0, chosen-length (a .k) (a .low .now) (a .mark .now), pr .0 .3) in
-    let h = c .before .before .before .before .before .before .having in
-    let e = front-list L _ _ (length (a .x .now)) (pr .1 .0 .0) few (h .ensures .1) in
     let n = pr .1 .0 in
-    rw e (
+    rw (listed t (c .before .before .before .before .before .before)) (
       (
         omega (arith, pr .0 .0),
         chosen-rising (a .k) (a .low .now) (a .mark .now) (pr .0 .1),
         chosen-below (a .k) (3 ^ a .i) (a .low .now) (a .mark .now) (pr .0 .2),
-        omega (arith, few, n .0),
+        omega (arith, few t st, n .0),
       ),
       (
         (
@@ -789,7 +705,7 @@ moment-residuals-requires t c κs =
           within-more 128 256 _ (omega arith) (pr .1 .1 .2),
           within-more 128 256 _ (omega arith) (pr .1 .1 .3),
         ),
-        ((n .0, n .1 ∙ n .0, length-take-le _ _ few ∙ n .0, length-take-le _ _ few ∙ n .0), (pr .1 .1 .0, pr .1 .1 .1)),
+        ((n .0, n .1 ∙ n .0, length-take-le _ _ (few t st) ∙ n .0, length-take-le _ _ (few t st) ∙ n .0), (pr .1 .1 .0, pr .1 .1 .1)),
       ),
     )
 
@@ -798,36 +714,13 @@ moment-returns-2 t c =
     let st = c .before .before .before .before .before .before .before .before .before .before .before .before .before .before .before in
     let a = st .args in
     let pr = st .pre .1 in
-    let L = chosen (a .k) (a .low .now) (a .mark .now) in
-    let few : length (a .x .now) ≤ 64 = omega (arith, pr .1 .0 .0, chosen-length (a .k) (a .low .now) (a .mark .now), pr .0 .3) in
-    let h = c .before .before .before .before .before .before .before .before .before .before .having in
-    let e = front-list L _ _ (length (a .x .now)) (pr .1 .0 .0) few (h .ensures .1) in
     let q = c .before .before .before .residuals in
-    both-too-large (a .i) L _ _ (rw (e, not-true (q .result) (c .if2 .taken)) at (q .ensures))
-
-moment-array-share-prefix-l-2 : (t : ℕ) → moment-lts.Need-array-share-prefix-l-2 (moment-calls t) (moment-at t) moment.Post
-moment-array-share-prefix-l-2 t c =
-    let st = c .before .before .before .before .before .before .before .before .before .before .before .before .before .before .before in
-    let a = st .args in
-    let pr = st .pre .1 in
-    let L = chosen (a .k) (a .low .now) (a .mark .now) in
-    let few : length (a .x .now) ≤ 64 = omega (arith, pr .1 .0 .0, chosen-length (a .k) (a .low .now) (a .mark .now), pr .0 .3) in
-    omega (arith, few, c .before .before .before .before .before .before .before .before .before .before .having .kept .1 .1 .1 .0)
-
-moment-slice-aggregate-put-moment : (t : ℕ) → moment-lts.Need-slice-aggregate-put-moment (moment-calls t) (moment-at t) moment.Post
-moment-slice-aggregate-put-moment t c =
-    let st = c .before .before .before .before .before .before .before .before .before .before .before .before .before .before .before
-    .before in
-    let a = st .args in
-    let pr = st .pre .1 in
-    let L = chosen (a .k) (a .low .now) (a .mark .now) in
-    let few : length (a .x .now) ≤ 64 = omega (arith, pr .1 .0 .0, chosen-length (a .k) (a .low .now) (a .mark .now), pr .0 .3) in
-    sym (length-take-le _ _ (omega (
-      arith,
-      few,
-      c .before .before .before .before .before .before .before .before .before .before .before
-          .having .kept .1 .1 .1 .0,
-    )))
+    both-too-large (a .i) (chosen (a .k) (a .low .now) (a .mark .now)) _ _
+    (rw (
+      listed t (c .before .before .before .before .before .before .before .before .before .before),
+      not-true (q .result) (c .if2
+          .taken),
+    ) at (q .ensures))
 
 moment-array-share-prefix-r : (t : ℕ) → moment-lts.Need-array-share-prefix-r (moment-calls t) (moment-at t) moment.Post
 moment-array-share-prefix-r t c =
@@ -835,11 +728,8 @@ moment-array-share-prefix-r t c =
     .before in
     let a = st .args in
     let pr = st .pre .1 in
-    let L = chosen (a .k) (a .low .now) (a .mark .now) in
-    let few : length (a .x .now) ≤ 64 = omega (arith, pr .1 .0 .0, chosen-length (a .k) (a .low .now) (a .mark .now), pr .0 .3) in
-    let q = c .before .before .before .before .residuals in
-    let n = q .kept .1 .1 .1 .1 .1 .1 .1 .0 ∙ length-take-le _ _ few in
-    long-front (length (a .x .now)) (q .last .1 .1 .1 .1 .1 .1 .1 .0) (spare (length (a .x .now))) n
+    long-front _ (c .before .before .before .before .residuals .last .1 .1 .1 .1 .1 .1 .1 .0) (spare (length (a .x .now))) (rests t (c
+    .before .before .before .before) .0)
 
 moment-slice-aggregate-put-moment-2 : (t : ℕ) → moment-lts.Need-slice-aggregate-put-moment-2 (moment-calls t) (moment-at t) moment.Post
 moment-slice-aggregate-put-moment-2 t c =
@@ -847,11 +737,8 @@ moment-slice-aggregate-put-moment-2 t c =
     .before .before in
     let a = st .args in
     let pr = st .pre .1 in
-    let L = chosen (a .k) (a .low .now) (a .mark .now) in
-    let few : length (a .x .now) ≤ 64 = omega (arith, pr .1 .0 .0, chosen-length (a .k) (a .low .now) (a .mark .now), pr .0 .3) in
-    let q = c .before .before .before .before .before .residuals in
-    let n = q .kept .1 .1 .1 .1 .1 .1 .1 .0 ∙ length-take-le _ _ few in
-    count-front (length (a .x .now)) (q .last .1 .1 .1 .1 .1 .1 .1 .0) (spare (length (a .x .now))) n
+    count-front _ (c .before .before .before .before .before .residuals .last .1 .1 .1 .1 .1 .1 .1 .0) (spare (length (a .x .now)))
+    (rests t (c .before .before .before .before .before) .0)
 
 moment-array-share-prefix-t : (t : ℕ) → moment-lts.Need-array-share-prefix-t (moment-calls t) (moment-at t) moment.Post
 moment-array-share-prefix-t t c =
@@ -859,11 +746,8 @@ moment-array-share-prefix-t t c =
     .before .before in
     let a = st .args in
     let pr = st .pre .1 in
-    let L = chosen (a .k) (a .low .now) (a .mark .now) in
-    let few : length (a .x .now) ≤ 64 = omega (arith, pr .1 .0 .0, chosen-length (a .k) (a .low .now) (a .mark .now), pr .0 .3) in
-    let q = c .before .before .before .before .before .residuals in
-    let n = q .kept .1 .1 .1 .1 .1 .1 .1 .1 .0 ∙ length-take-le _ _ few in
-    long-front (length (a .x .now)) (q .last .1 .1 .1 .1 .1 .1 .1 .1 .0) (spare (length (a .x .now))) n
+    long-front _ (c .before .before .before .before .before .residuals .last .1 .1 .1 .1 .1 .1 .1 .1 .0) (spare (length (a .x .now)))
+    (rests t (c .before .before .before .before .before) .1)
 
 moment-slice-aggregate-put-moment-3 : (t : ℕ) → moment-lts.Need-slice-aggregate-put-moment-3 (moment-calls t) (moment-at t) moment.Post
 moment-slice-aggregate-put-moment-3 t c =
@@ -871,11 +755,8 @@ moment-slice-aggregate-put-moment-3 t c =
     .before .before .before in
     let a = st .args in
     let pr = st .pre .1 in
-    let L = chosen (a .k) (a .low .now) (a .mark .now) in
-    let few : length (a .x .now) ≤ 64 = omega (arith, pr .1 .0 .0, chosen-length (a .k) (a .low .now) (a .mark .now), pr .0 .3) in
-    let q = c .before .before .before .before .before .before .residuals in
-    let n = q .kept .1 .1 .1 .1 .1 .1 .1 .1 .0 ∙ length-take-le _ _ few in
-    count-front (length (a .x .now)) (q .last .1 .1 .1 .1 .1 .1 .1 .1 .0) (spare (length (a .x .now))) n
+    count-front _ (c .before .before .before .before .before .before .residuals .last .1 .1 .1 .1 .1 .1 .1 .1 .0) (spare (length (a .x
+    .now))) (rests t (c .before .before .before .before .before .before) .1)
 
 moment-put-moment-requires : (t : ℕ) → moment-lts.Need-put-moment-requires (moment-calls t) (moment-at t) moment.Post
 moment-put-moment-requires t c κs =
@@ -883,16 +764,12 @@ moment-put-moment-requires t c κs =
     .before .before .before .before .before in
     let a = st .args in
     let pr = st .pre .1 in
-    let L = chosen (a .k) (a .low .now) (a .mark .now) in
-    let few : length (a .x .now) ≤ 64 = omega (arith, pr .1 .0 .0, chosen-length (a .k) (a .low .now) (a .mark .now), pr .0 .3) in
-    let h = c .before .before .before .before .before .before .before .before .before .before .before .before .before .before .before
-    .having in
-    let e = front-list L _ _ (length (a .x .now)) (pr .1 .0 .0) few (h .ensures .1) in
     let q = c .before .before .before .before .before .before .before .before .residuals in
-    let n₁ = q .kept .1 .1 .1 .1 .1 .1 .1 .0 ∙ length-take-le _ _ few in
-    let n₂ = q .kept .1 .1 .1 .1 .1 .1 .1 .1 .0 ∙ length-take-le _ _ few in
-    let f₁ = front-of (length (a .x .now)) (q .last .1 .1 .1 .1 .1 .1 .1 .0) (spare (length (a .x .now))) n₁ in
-    let f₂ = front-of (length (a .x .now)) (q .last .1 .1 .1 .1 .1 .1 .1 .1 .0) (spare (length (a .x .now))) n₂ in
+    let e = listed t (c .before .before .before .before .before .before .before .before .before .before .before .before .before .before
+    .before) in
+    let N = rests t (c .before .before .before .before .before .before .before .before) in
+    let f₁ = front-of (length (a .x .now)) (q .last .1 .1 .1 .1 .1 .1 .1 .0) (spare (length (a .x .now))) (N .0) in
+    let f₂ = front-of (length (a .x .now)) (q .last .1 .1 .1 .1 .1 .1 .1 .1 .0) (spare (length (a .x .now))) (N .1) in
     let E = rw (e, not-false (q .result) (c .before .before .before .before .before .if2 .left)) at (q .ensures) in
     let n = pr .1 .0 in (
       omega (arith, st .pre .0),
@@ -901,15 +778,15 @@ moment-put-moment-requires t c κs =
           pr .0 .0,
           chosen-rising (a .k) (a .low .now) (a .mark .now) (pr .0 .1),
           chosen-below (a .k) (3 ^ a .i) (a .low .now) (a .mark .now) (pr .0 .2),
-          omega (arith, few, n .0),
+          omega (arith, few t st, n .0),
           pr .0 .5,
           omega (arith, pr .0 .4, pr .0 .3),
         ),
         (
           (
             sym (rank-all (a .k) (a .low .now) (a .mark .now) (pr .0 .4)),
-            n₁ ∙ n .0,
-            n₂ ∙ n .0,
+            N .0 ∙ n .0,
+            N .1 ∙ n .0,
             n .2 ∙ sym (pr .0 .4),
             n .3 ∙ sym (pr .0 .4),
           ),
@@ -924,16 +801,12 @@ moment-returns-3 t c =
     .before .before .before .before .before .before .before .before in
     let a = st .args in
     let pr = st .pre .1 in
-    let L = chosen (a .k) (a .low .now) (a .mark .now) in
-    let few : length (a .x .now) ≤ 64 = omega (arith, pr .1 .0 .0, chosen-length (a .k) (a .low .now) (a .mark .now), pr .0 .3) in
-    let h = c .before .before .before .before .before .before .before .before .before .before .before .before .before .before .before
-    .before .before .before .having in
-    let e = front-list L _ _ (length (a .x .now)) (pr .1 .0 .0) few (h .ensures .1) in
     let q = c .before .before .before .before .before .before .before .before .before .before .before .residuals in
-    let n₁ = q .kept .1 .1 .1 .1 .1 .1 .1 .0 ∙ length-take-le _ _ few in
-    let n₂ = q .kept .1 .1 .1 .1 .1 .1 .1 .1 .0 ∙ length-take-le _ _ few in
-    let f₁ = front-of (length (a .x .now)) (q .last .1 .1 .1 .1 .1 .1 .1 .0) (spare (length (a .x .now))) n₁ in
-    let f₂ = front-of (length (a .x .now)) (q .last .1 .1 .1 .1 .1 .1 .1 .1 .0) (spare (length (a .x .now))) n₂ in
+    let e = listed t (c .before .before .before .before .before .before .before .before .before .before .before .before .before .before
+    .before .before .before .before) in
+    let N = rests t (c .before .before .before .before .before .before .before .before .before .before .before) in
+    let f₁ = front-of (length (a .x .now)) (q .last .1 .1 .1 .1 .1 .1 .1 .0) (spare (length (a .x .now))) (N .0) in
+    let f₂ = front-of (length (a .x .now)) (q .last .1 .1 .1 .1 .1 .1 .1 .1 .0) (spare (length (a .x .now))) (N .1) in
     let E = rw (e, not-false (q .result) (c .before .before .before .before .before .before .before .before .if2 .left)) at (q .ensures) in
     rw (e, f₁ ∙ E .0, f₂ ∙ E .1) at (c .before .before .put-moment .ensures)
 
@@ -1036,6 +909,53 @@ put-moment-returns-2 t c =
       ),
     )
 
+-- ---- what `solve_low` holds
+
+-- the moments are as many as the patterns left
+longs : (t : ℕ) (c : solve-low-lts.After-find-moments (solve-low-calls t) (solve-low-at t) solve-low.Post) →
+    let l = c .before .before .before .before .before .before .before .before .before .before .before .args .low .now in
+    let m = c .find-moments in
+    (length (m .last .1 .1 .1 .1 .1 .0) ≡ length l)
+    × (length (m .last .1 .1 .1 .1 .1 .1 .0) ≡ length l)
+    × (length (m .last .1 .1 .1 .1 .1 .1 .1 .0) ≡ length l)
+    × (length (m .last .1 .1 .1 .1 .1 .1 .1 .1 .0) ≡ length l)
+    × (length (m .last .1 .1 .1 .1 .1 .1 .1 .1 .1 .0) ≡ length l)
+    × (length (m .last .1 .1 .1 .1 .1 .1 .1 .1 .1 .1 .0) ≡ length l)
+longs t c =
+    let few = length-take-le _ _ (c .before .before .before .before .before .before .before .before .before .before .before .pre .1 .1 .1
+    .1 .1) in
+    let m = c .find-moments in (
+      m .kept .1 .1 .1 .1 .1 .0 ∙ few,
+      m .kept .1 .1 .1 .1 .1 .1 .0 ∙ few,
+      m .kept .1 .1 .1 .1 .1 .1 .1 .0 ∙ few,
+      m .kept .1 .1 .1 .1 .1
+          .1 .1 .1 .0 ∙ few,
+      m .kept .1 .1 .1 .1 .1 .1 .1 .1 .1 .0 ∙ few,
+      m .kept .1 .1 .1 .1 .1 .1 .1 .1 .1 .1 .0 ∙ few,
+    )
+
+-- and stand at the front of their arrays
+fronts : (t : ℕ) (c : solve-low-lts.After-find-moments (solve-low-calls t) (solve-low-at t) solve-low.Post) →
+    let n = length (c .before .before .before .before .before .before .before .before .before .before .before .args .low .now) in
+    let m = c .find-moments in
+    (take n (m .last .1 .1 .1 .1 .1 .0 ++ spare n) ≡ m .last .1 .1 .1 .1 .1 .0)
+    × (take n (m .last .1 .1 .1 .1 .1 .1 .0 ++ spare n) ≡ m .last .1 .1 .1 .1 .1 .1 .0)
+    × (take n (m .last .1 .1 .1 .1 .1 .1 .1 .0 ++ spare n) ≡ m .last .1 .1 .1 .1 .1 .1 .1 .0)
+    × (take n (m .last .1 .1 .1 .1 .1 .1 .1 .1 .0 ++ spare n) ≡ m .last .1 .1 .1 .1 .1 .1 .1 .1 .0)
+    × (take n (m .last .1 .1 .1 .1 .1 .1 .1 .1 .1 .0 ++ spare n) ≡ m .last .1 .1 .1 .1 .1 .1 .1 .1 .1 .0)
+    × (take n (m .last .1 .1 .1 .1 .1 .1 .1 .1 .1 .1 .0 ++ spare n) ≡ m .last .1 .1 .1 .1 .1 .1 .1 .1 .1 .1 .0)
+fronts t c =
+    let n = length (c .before .before .before .before .before .before .before .before .before .before .before .args .low .now) in
+    let N = longs t c in (
+      front-of n _ (spare n) (N .0),
+      front-of n _ (spare n) (N .1),
+      front-of n _ (spare n) (N .2),
+      front-of n _ (spare n) (N .3),
+      front-of
+          n _ (spare n) (N .4),
+      front-of n _ (spare n) (N .5),
+    )
+
 solve-low-find-moments-requires : (t : ℕ) → solve-low-lts.Need-find-moments-requires (solve-low-calls t) (solve-low-at t) solve-low.Post
 solve-low-find-moments-requires t c κs =
     let st = c .before .before .before .before .before .before .before .before .before .before in
@@ -1073,9 +993,8 @@ solve-low-array-share-prefix-d t c =
     .before .before .before in
     let a = st .args in
     let pr = st .pre .1 in
-    let m = c .before .before .before .before .before .before .before .find-moments in
-    let n = m .kept .1 .1 .1 .1 .1 .0 ∙ length-take-le _ _ (pr .1 .1 .1 .1) in
-    long-front (length (a .low .now)) (m .last .1 .1 .1 .1 .1 .0) (spare (length (a .low .now))) n
+    long-front _ (c .before .before .before .before .before .before .before .find-moments .last .1 .1 .1 .1 .1 .0) (spare (length (a .low
+    .now))) (longs t (c .before .before .before .before .before .before .before) .0)
 
 solve-low-slice-aggregate-combine-pair : (t : ℕ) → solve-low-lts.Need-slice-aggregate-combine-pair (solve-low-calls t) (solve-low-at t)
     solve-low.Post
@@ -1084,9 +1003,8 @@ solve-low-slice-aggregate-combine-pair t c =
     .before .before .before .before in
     let a = st .args in
     let pr = st .pre .1 in
-    let m = c .before .before .before .before .before .before .before .before .find-moments in
-    let n = m .kept .1 .1 .1 .1 .1 .0 ∙ length-take-le _ _ (pr .1 .1 .1 .1) in
-    count-front (length (a .low .now)) (m .last .1 .1 .1 .1 .1 .0) (spare (length (a .low .now))) n
+    count-front _ (c .before .before .before .before .before .before .before .before .find-moments .last .1 .1 .1 .1 .1 .0) (spare
+    (length (a .low .now))) (longs t (c .before .before .before .before .before .before .before .before) .0)
 
 solve-low-array-share-prefix-e : (t : ℕ) → solve-low-lts.Need-array-share-prefix-e (solve-low-calls t) (solve-low-at t) solve-low.Post
 solve-low-array-share-prefix-e t c =
@@ -1094,9 +1012,8 @@ solve-low-array-share-prefix-e t c =
     .before .before .before .before in
     let a = st .args in
     let pr = st .pre .1 in
-    let m = c .before .before .before .before .before .before .before .before .find-moments in
-    let n = m .kept .1 .1 .1 .1 .1 .1 .0 ∙ length-take-le _ _ (pr .1 .1 .1 .1) in
-    long-front (length (a .low .now)) (m .last .1 .1 .1 .1 .1 .1 .0) (spare (length (a .low .now))) n
+    long-front _ (c .before .before .before .before .before .before .before .before .find-moments .last .1 .1 .1 .1 .1 .1 .0) (spare
+    (length (a .low .now))) (longs t (c .before .before .before .before .before .before .before .before) .1)
 
 solve-low-slice-aggregate-combine-pair-2 : (t : ℕ) → solve-low-lts.Need-slice-aggregate-combine-pair-2 (solve-low-calls t) (solve-low-at
     t) solve-low.Post
@@ -1105,9 +1022,8 @@ solve-low-slice-aggregate-combine-pair-2 t c =
     .before .before .before .before .before in
     let a = st .args in
     let pr = st .pre .1 in
-    let m = c .before .before .before .before .before .before .before .before .before .find-moments in
-    let n = m .kept .1 .1 .1 .1 .1 .1 .0 ∙ length-take-le _ _ (pr .1 .1 .1 .1) in
-    count-front (length (a .low .now)) (m .last .1 .1 .1 .1 .1 .1 .0) (spare (length (a .low .now))) n
+    count-front _ (c .before .before .before .before .before .before .before .before .before .find-moments .last .1 .1 .1 .1 .1 .1 .0)
+    (spare (length (a .low .now))) (longs t (c .before .before .before .before .before .before .before .before .before) .1)
 
 solve-low-array-share-prefix-g : (t : ℕ) → solve-low-lts.Need-array-share-prefix-g (solve-low-calls t) (solve-low-at t) solve-low.Post
 solve-low-array-share-prefix-g t c =
@@ -1115,9 +1031,8 @@ solve-low-array-share-prefix-g t c =
     .before .before .before .before .before in
     let a = st .args in
     let pr = st .pre .1 in
-    let m = c .before .before .before .before .before .before .before .before .before .find-moments in
-    let n = m .kept .1 .1 .1 .1 .1 .1 .1 .0 ∙ length-take-le _ _ (pr .1 .1 .1 .1) in
-    long-front (length (a .low .now)) (m .last .1 .1 .1 .1 .1 .1 .1 .0) (spare (length (a .low .now))) n
+    long-front _ (c .before .before .before .before .before .before .before .before .before .find-moments .last .1 .1 .1 .1 .1 .1 .1 .0)
+    (spare (length (a .low .now))) (longs t (c .before .before .before .before .before .before .before .before .before) .2)
 
 solve-low-slice-aggregate-combine-pair-3 : (t : ℕ) → solve-low-lts.Need-slice-aggregate-combine-pair-3 (solve-low-calls t) (solve-low-at
     t) solve-low.Post
@@ -1126,9 +1041,9 @@ solve-low-slice-aggregate-combine-pair-3 t c =
     .before .before .before .before .before .before in
     let a = st .args in
     let pr = st .pre .1 in
-    let m = c .before .before .before .before .before .before .before .before .before .before .find-moments in
-    let n = m .kept .1 .1 .1 .1 .1 .1 .1 .0 ∙ length-take-le _ _ (pr .1 .1 .1 .1) in
-    count-front (length (a .low .now)) (m .last .1 .1 .1 .1 .1 .1 .1 .0) (spare (length (a .low .now))) n
+    count-front _ (c .before .before .before .before .before .before .before .before .before .before .find-moments .last .1 .1 .1 .1 .1
+    .1 .1 .0) (spare (length (a .low .now))) (longs t (c .before .before .before .before .before .before .before .before .before
+    .before) .2)
 
 solve-low-array-share-prefix-d2 : (t : ℕ) → solve-low-lts.Need-array-share-prefix-d2 (solve-low-calls t) (solve-low-at t) solve-low.Post
 solve-low-array-share-prefix-d2 t c =
@@ -1136,9 +1051,9 @@ solve-low-array-share-prefix-d2 t c =
     .before .before .before .before .before .before in
     let a = st .args in
     let pr = st .pre .1 in
-    let m = c .before .before .before .before .before .before .before .before .before .before .find-moments in
-    let n = m .kept .1 .1 .1 .1 .1 .1 .1 .1 .0 ∙ length-take-le _ _ (pr .1 .1 .1 .1) in
-    long-front (length (a .low .now)) (m .last .1 .1 .1 .1 .1 .1 .1 .1 .0) (spare (length (a .low .now))) n
+    long-front _ (c .before .before .before .before .before .before .before .before .before .before .find-moments .last .1 .1 .1 .1 .1 .1
+    .1 .1 .0) (spare (length (a .low .now))) (longs t (c .before .before .before .before .before .before .before .before .before
+    .before) .3)
 
 solve-low-slice-aggregate-combine-pair-4 : (t : ℕ) → solve-low-lts.Need-slice-aggregate-combine-pair-4 (solve-low-calls t) (solve-low-at
     t) solve-low.Post
@@ -1147,9 +1062,9 @@ solve-low-slice-aggregate-combine-pair-4 t c =
     .before .before .before .before .before .before .before in
     let a = st .args in
     let pr = st .pre .1 in
-    let m = c .before .before .before .before .before .before .before .before .before .before .before .find-moments in
-    let n = m .kept .1 .1 .1 .1 .1 .1 .1 .1 .0 ∙ length-take-le _ _ (pr .1 .1 .1 .1) in
-    count-front (length (a .low .now)) (m .last .1 .1 .1 .1 .1 .1 .1 .1 .0) (spare (length (a .low .now))) n
+    count-front _ (c .before .before .before .before .before .before .before .before .before .before .before .find-moments .last .1 .1 .1
+    .1 .1 .1 .1 .1 .0) (spare (length (a .low .now))) (longs t (c .before .before .before .before .before .before .before .before
+    .before .before .before) .3)
 
 solve-low-array-share-prefix-e2 : (t : ℕ) → solve-low-lts.Need-array-share-prefix-e2 (solve-low-calls t) (solve-low-at t) solve-low.Post
 solve-low-array-share-prefix-e2 t c =
@@ -1157,9 +1072,9 @@ solve-low-array-share-prefix-e2 t c =
     .before .before .before .before .before .before .before in
     let a = st .args in
     let pr = st .pre .1 in
-    let m = c .before .before .before .before .before .before .before .before .before .before .before .find-moments in
-    let n = m .kept .1 .1 .1 .1 .1 .1 .1 .1 .1 .0 ∙ length-take-le _ _ (pr .1 .1 .1 .1) in
-    long-front (length (a .low .now)) (m .last .1 .1 .1 .1 .1 .1 .1 .1 .1 .0) (spare (length (a .low .now))) n
+    long-front _ (c .before .before .before .before .before .before .before .before .before .before .before .find-moments .last .1 .1 .1
+    .1 .1 .1 .1 .1 .1 .0) (spare (length (a .low .now))) (longs t (c .before .before .before .before .before .before .before .before
+    .before .before .before) .4)
 
 solve-low-slice-aggregate-combine-pair-5 : (t : ℕ) → solve-low-lts.Need-slice-aggregate-combine-pair-5 (solve-low-calls t) (solve-low-at
     t) solve-low.Post
@@ -1168,9 +1083,9 @@ solve-low-slice-aggregate-combine-pair-5 t c =
     .before .before .before .before .before .before .before .before in
     let a = st .args in
     let pr = st .pre .1 in
-    let m = c .before .before .before .before .before .before .before .before .before .before .before .before .find-moments in
-    let n = m .kept .1 .1 .1 .1 .1 .1 .1 .1 .1 .0 ∙ length-take-le _ _ (pr .1 .1 .1 .1) in
-    count-front (length (a .low .now)) (m .last .1 .1 .1 .1 .1 .1 .1 .1 .1 .0) (spare (length (a .low .now))) n
+    count-front _ (c .before .before .before .before .before .before .before .before .before .before .before .before .find-moments .last
+    .1 .1 .1 .1 .1 .1 .1 .1 .1 .0) (spare (length (a .low .now))) (longs t (c .before .before .before .before .before .before .before
+    .before .before .before .before .before) .4)
 
 solve-low-array-share-prefix-g2 : (t : ℕ) → solve-low-lts.Need-array-share-prefix-g2 (solve-low-calls t) (solve-low-at t) solve-low.Post
 solve-low-array-share-prefix-g2 t c =
@@ -1178,9 +1093,9 @@ solve-low-array-share-prefix-g2 t c =
     .before .before .before .before .before .before .before .before in
     let a = st .args in
     let pr = st .pre .1 in
-    let m = c .before .before .before .before .before .before .before .before .before .before .before .before .find-moments in
-    let n = m .kept .1 .1 .1 .1 .1 .1 .1 .1 .1 .1 .0 ∙ length-take-le _ _ (pr .1 .1 .1 .1) in
-    long-front (length (a .low .now)) (m .last .1 .1 .1 .1 .1 .1 .1 .1 .1 .1 .0) (spare (length (a .low .now))) n
+    long-front _ (c .before .before .before .before .before .before .before .before .before .before .before .before .find-moments .last
+    .1 .1 .1 .1 .1 .1 .1 .1 .1 .1 .0) (spare (length (a .low .now))) (longs t (c .before .before .before .before .before .before
+    .before .before .before .before .before .before) .5)
 
 solve-low-slice-aggregate-combine-pair-6 : (t : ℕ) → solve-low-lts.Need-slice-aggregate-combine-pair-6 (solve-low-calls t) (solve-low-at
     t) solve-low.Post
@@ -1189,9 +1104,9 @@ solve-low-slice-aggregate-combine-pair-6 t c =
     .before .before .before .before .before .before .before .before .before in
     let a = st .args in
     let pr = st .pre .1 in
-    let m = c .before .before .before .before .before .before .before .before .before .before .before .before .before .find-moments in
-    let n = m .kept .1 .1 .1 .1 .1 .1 .1 .1 .1 .1 .0 ∙ length-take-le _ _ (pr .1 .1 .1 .1) in
-    count-front (length (a .low .now)) (m .last .1 .1 .1 .1 .1 .1 .1 .1 .1 .1 .0) (spare (length (a .low .now))) n
+    count-front _ (c .before .before .before .before .before .before .before .before .before .before .before .before .before
+    .find-moments .last .1 .1 .1 .1 .1 .1 .1 .1 .1 .1 .0) (spare (length (a .low .now))) (longs t (c .before .before .before .before
+    .before .before .before .before .before .before .before .before .before) .5)
 
 solve-low-combine-pair-requires : (t : ℕ) → solve-low-lts.Need-combine-pair-requires (solve-low-calls t) (solve-low-at t) solve-low.Post
 solve-low-combine-pair-requires t c κs =
@@ -1206,35 +1121,27 @@ solve-low-combine-pair-requires t c κs =
     let m = c .before .before .before .before .before .before .before .before .before .before .before .before .before .before .before
     .find-moments in
     let M = rw (not-false (m .result) (c .before .before .before .before .before .before .before .before .if1 .left)) at (m .ensures) in
-    let n₁ = m .kept .1 .1 .1 .1 .1 .0 ∙ length-take-le _ _ few in
-    let n₂ = m .kept .1 .1 .1 .1 .1 .1 .0 ∙ length-take-le _ _ few in
-    let n₃ = m .kept .1 .1 .1 .1 .1 .1 .1 .0 ∙ length-take-le _ _ few in
-    let n₄ = m .kept .1 .1 .1 .1 .1 .1 .1 .1 .0 ∙ length-take-le _ _ few in
-    let n₅ = m .kept .1 .1 .1 .1 .1 .1 .1 .1 .1 .0 ∙ length-take-le _ _ few in
-    let n₆ = m .kept .1 .1 .1 .1 .1 .1 .1 .1 .1 .1 .0 ∙ length-take-le _ _ few in
-    let f₁ = front-of (length (a .low .now)) (m .last .1 .1 .1 .1 .1 .0) (spare (length (a .low .now))) n₁ in
-    let f₂ = front-of (length (a .low .now)) (m .last .1 .1 .1 .1 .1 .1 .0) (spare (length (a .low .now))) n₂ in
-    let f₃ = front-of (length (a .low .now)) (m .last .1 .1 .1 .1 .1 .1 .1 .0) (spare (length (a .low .now))) n₃ in
-    let f₄ = front-of (length (a .low .now)) (m .last .1 .1 .1 .1 .1 .1 .1 .1 .0) (spare (length (a .low .now))) n₄ in
-    let f₅ = front-of (length (a .low .now)) (m .last .1 .1 .1 .1 .1 .1 .1 .1 .1 .0) (spare (length (a .low .now))) n₅ in
-    let f₆ = front-of (length (a .low .now)) (m .last .1 .1 .1 .1 .1 .1 .1 .1 .1 .1 .0) (spare (length (a .low .now))) n₆ in
+    let N = longs t (c .before .before .before .before .before .before .before .before .before .before .before .before .before .before
+    .before) in
+    let F = fronts t (c .before .before .before .before .before .before .before .before .before .before .before .before .before .before
+    .before) in
     let w₁ = moments-within (a .i) (a .low .now) (a .mark .now) (a .x .now) _ _ _ (Q .marked) (M .0) in
     let w₂ = moments-within (a .i) (a .low .now) (a .mark .now) (a .y .now) _ _ _ (Q .marked) (M .1) in
-    rw (f₁, f₂, f₃, f₄, f₅, f₆, pr .0 .1) (
+    rw (F .0, F .1, F .2, F .3, F .4, F .5, pr .0 .1) (
       (
         below-three (a .i) (a .l .now) (pr .0 .3),
         pr .1 .1 .1 .2,
         pr .1 .0 .2,
         pr .1 .0 .3,
-        below-places (a .i) _ (a .l .now) (a .low .now) (a .mark .now) (a .at .now) Q (pr .1 .1 .1 .2) n₁,
+        below-places (a .i) _ (a .l .now) (a .low .now) (a .mark .now) (a .at .now) Q (pr .1 .1 .1 .2) (N .0),
         pr .0 .4,
       ),
       (
-        n₂ ∙ sym n₁,
-        n₃ ∙ sym n₁,
-        n₄ ∙ sym n₁,
-        n₅ ∙ sym n₁,
-        n₆ ∙ sym n₁,
+        N .1 ∙ sym (N .0),
+        N .2 ∙ sym (N .0),
+        N .3 ∙ sym (N .0),
+        N .4 ∙ sym (N .0),
+        N .5 ∙ sym (N .0),
         w₁ .0,
         w₁ .1,
         w₁ .2,
@@ -1258,21 +1165,13 @@ solve-low-returns-2 t c =
     .before .before .before .find-moments in
     let M = rw (not-false (m .result) (c .before .before .before .before .before .before .before .before .before .before .before .if1
     .left)) at (m .ensures) in
-    let n₁ = m .kept .1 .1 .1 .1 .1 .0 ∙ length-take-le _ _ few in
-    let n₂ = m .kept .1 .1 .1 .1 .1 .1 .0 ∙ length-take-le _ _ few in
-    let n₃ = m .kept .1 .1 .1 .1 .1 .1 .1 .0 ∙ length-take-le _ _ few in
-    let n₄ = m .kept .1 .1 .1 .1 .1 .1 .1 .1 .0 ∙ length-take-le _ _ few in
-    let n₅ = m .kept .1 .1 .1 .1 .1 .1 .1 .1 .1 .0 ∙ length-take-le _ _ few in
-    let n₆ = m .kept .1 .1 .1 .1 .1 .1 .1 .1 .1 .1 .0 ∙ length-take-le _ _ few in
-    let f₁ = front-of (length (a .low .now)) (m .last .1 .1 .1 .1 .1 .0) (spare (length (a .low .now))) n₁ in
-    let f₂ = front-of (length (a .low .now)) (m .last .1 .1 .1 .1 .1 .1 .0) (spare (length (a .low .now))) n₂ in
-    let f₃ = front-of (length (a .low .now)) (m .last .1 .1 .1 .1 .1 .1 .1 .0) (spare (length (a .low .now))) n₃ in
-    let f₄ = front-of (length (a .low .now)) (m .last .1 .1 .1 .1 .1 .1 .1 .1 .0) (spare (length (a .low .now))) n₄ in
-    let f₅ = front-of (length (a .low .now)) (m .last .1 .1 .1 .1 .1 .1 .1 .1 .1 .0) (spare (length (a .low .now))) n₅ in
-    let f₆ = front-of (length (a .low .now)) (m .last .1 .1 .1 .1 .1 .1 .1 .1 .1 .1 .0) (spare (length (a .low .now))) n₆ in
+    let N = longs t (c .before .before .before .before .before .before .before .before .before .before .before .before .before .before
+    .before .before .before .before) in
+    let F = fronts t (c .before .before .before .before .before .before .before .before .before .before .before .before .before .before
+    .before .before .before .before) in
     combined (a .i) (a .l .now) (a .low .now) (a .mark .now) (a .at .now) (a .x .now) (a .y .now) _ _ _ _ _ _ _ _
     (c .before .before .combine-pair .result) P P′ Q (M .0) (M .1)
-    (rw (f₁, f₂, f₃, f₄, f₅, f₆, pr .0 .1) at (c .before .before .combine-pair .ensures))
+    (rw (F .0, F .1, F .2, F .3, F .4, F .5, pr .0 .1) at (c .before .before .combine-pair .ensures))
 
 solve-pair-returns : (t : ℕ) → solve-pair-lts.Need-returns (solve-pair-calls t) (solve-pair-at t) solve-pair.Post
 solve-pair-returns t c =
@@ -1422,11 +1321,19 @@ pub +find-moments+moment+put-moment+solve-low+solve-pair+solve-split-spec :
     (find-moments-returns t)
     (find-moments-second-requires t)
     (find-moments-second-requires-2 t)
-    (find-moments-mul-moment t)
+    (λ c. omega (
+      arith,
+      c .before .before .before .before .before .before .before .before .before .before .before .before .before .before
+          .before .before .before .before .before .pre .1 .0 .3,
+    ))
     (λ c. omega arith)
     (λ c. omega arith)
     (find-moments-part-moment-end t)
-    (find-moments-mul-moment-2 t)
+    (λ c. omega (
+      arith,
+      c .before .before .before .before .before .before .before .before .before .before .before .before .before .before
+          .before .before .before .before .before .before .pre .1 .0 .3,
+    ))
     (λ c. omega arith)
     (λ c. omega arith)
     (find-moments-part-moment-end-2 t)
@@ -1476,18 +1383,34 @@ pub +find-moments+moment+put-moment+solve-low+solve-pair+solve-split-spec :
     (moment-returns t)
     (λ c. refl)
     (λ c κs. let pr = c .before .before .before .before .pre .1 in (pr .0 .4, pr .0 .5, pr .0 .3))
-    (moment-array-share-prefix-l t)
-    (moment-slice-aggregate-residuals t)
-    (moment-array-borrow-prefix-r t)
-    (moment-slice-aggregate-residuals-2 t)
-    (moment-array-borrow-prefix-t t)
-    (moment-slice-aggregate-residuals-3 t)
+    (λ c. omega (arith, few t (c .before .before .before .before .before .before), c .before .having .kept .1 .1 .1 .0))
+    (λ c. sym (length-take-le _ _ (omega (
+      arith,
+      few t (c .before .before .before .before .before .before .before),
+      c .before .before
+          .having .kept .1 .1 .1 .0,
+    ))))
+    (λ c. few t (c .before .before .before .before .before .before .before .before .before))
+    (λ c. sym (length-take-le _ _ (few t (c .before .before .before .before .before .before .before .before .before .before))))
+    (λ c. few t (c .before .before .before .before .before .before .before .before .before .before))
+    (λ c. sym (length-take-le _ _ (few t (c .before .before .before .before .before .before .before .before .before .before .before))))
     (moment-residuals-requires t)
     (λ c. refl)
     (λ c. refl)
     (moment-returns-2 t)
-    (moment-array-share-prefix-l-2 t)
-    (moment-slice-aggregate-put-moment t)
+    (λ c. omega (
+      arith,
+      few t (c .before .before .before .before .before .before .before .before .before .before .before .before .before
+          .before .before),
+      c .before .before .before .before .before .before .before .before .before .before .having .kept .1 .1 .1 .0,
+    ))
+    (λ c. sym (length-take-le _ _ (omega (
+      arith,
+      few t (c .before .before .before .before .before .before .before .before .before .before
+          .before .before .before .before .before .before),
+      c .before .before .before .before .before .before .before .before .before
+          .before .before .having .kept .1 .1 .1 .0,
+    ))))
     (moment-array-share-prefix-r t)
     (moment-slice-aggregate-put-moment-2 t)
     (moment-array-share-prefix-t t)
