@@ -1,5 +1,5 @@
 /* Opened cards and run records that no call could have left: their fields are plain numbers, and every call on them still answers. Each answer is
- * compared with one worked out here another way: signs point by point; records by the rules of crates/determination/specs/Record.antt, and the end of
+ * compared with one worked out here another way: signs point by point; records by the rules of crates/run_record/specs/Record.antt, and the end of
  * a round by elimination modulo a prime, with adapted lists as document 000 has them, the first products whose rows of signs are independent.
  *
  *     forged [ROUNDS [SEED]]        prints what it saw; exits 1 at a difference, and where a case never occurred */

@@ -38,8 +38,8 @@ use Rattle.query.proofs.query.Reads as query
 use Rattle.query.proofs.open.Reads as open-card
 use Rattle.query.proofs.ask.Reads as ask-opened
 use Rattle.runs.specs.Run.{Step, ask, done}
-use Rattle.determination.specs.declared.Run.{Run}
-use Rattle.determination.specs.Record.{stateOf}
+use Rattle.run_record.specs.declared.Run.{Run}
+use Rattle.run_record.specs.Record.{stateOf}
 use Rattle.determination.proofs.Contracts.{Started, Took, Fetches, Copies, kept}
 use Rattle.card_runs.specs.Claim.{Played, EndsDone}
 use Rattle.card_runs.proofs.Runs.{ends-done, played-done}

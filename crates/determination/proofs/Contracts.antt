@@ -1,26 +1,24 @@
 -- DEMAND 3 of the code: the calls are known by their contracts alone, so that a weaker promise of any of them breaks the theorem. `Learnt`
 -- is what a call promises of its arguments, its result and what it leaves in lent memory. Of the answer on a lent record it is the
 -- assertion of its contract, which held where the call ended (`Held`).
-use mathlib.Core.Path.{_≡_, ap, ap₂, _∙_}
-use mathlib.Core.HLevel.{×-prop}
+use mathlib.Core.Path.{_≡_, ap₂, _∙_}
 use mathlib.Core.List.{List, _++_}
 use Prim.Native.Nat.{ℕ, _≤_}
-use borrow.Author.Tests.{le-leb}
 use lib.IntN.{ℤ}
 use contract.Lifetimes.{Lfts}
 use denote.Ref.{RefT, now}
 use Rattle.refusals.specs.Limits.{mostPolynomials}
-use Rattle.rounds.specs.RoundEnd.{roundRows}
-use Rattle.determination.specs.declared.Run.{Run}
+use Rattle.run_record.specs.declared.Run.{Run}
 use Rattle.determination.specs.declared.Answered.{Answered}
 use Rattle.determination.specs.declared.Fetched.{Fetched}
 use Rattle.determination.specs.declared.Copied as code
-use Rattle.determination.specs.declared.Step as code-step
-use Rattle.runs.specs.Run.{State, Step, Fetch, Copy, ask, running, startOf, answerOf, fetchOf, copyOf}
-use Rattle.determination.specs.Record.{stateOf, stepOf, fetchedOf, copiedOf, startedOf, StartGives, AnswerGives}
+use Rattle.run_record.specs.declared.Step as code-step
+use Rattle.runs.specs.Run.{Step, Fetch, Copy, ask, running, startOf, fetchOf, copyOf}
+use Rattle.run_record.specs.Record.{stateOf, stepOf, AnswerGives}
+use Rattle.determination.specs.Served.{fetchedOf, copiedOf}
 use Rattle.runs.specs.Demand.{Call, Event, phaseOf, taken, asks, given, Claim}
 use Rattle.runs.proofs.Chains.{Keeps, FromStart, demand3-chain}
-use Rattle.runs.proofs.Sets.{step-set, state-set}
+use Rattle.run_record.proofs.Promises.{ByRules, by-rules, by-rules-prop, start-by-rules}
 use Rattle.determination.proofs.start.Reads as start
 use Rattle.determination.proofs.answer.Reads as answer
 use Rattle.determination.proofs.answer_through.Reads as through
@@ -77,22 +75,7 @@ pub record Fetches (c : Run) (p : ℕ) (x : Fetch) : Type 2 where
   pub gave : x ≡ fetchedOf result
 
 keeps-starts : (s : ℕ) (c : Run) (x : Step) → 1 ≤ s → s ≤ mostPolynomials → Started s c x → (stateOf c ≡ startOf s) × (x ≡ ask 0)
-unfolding startedOf
-keeps-starts s c x h m u =
-    let k : StartGives s (u .result .run) (stepOf (u .result .step)) = u .kept in
-    let e : _≡_ {A = State × Step} (stateOf (u .result .run), stepOf (u .result .step))
-    (startOf s, ask 0) = (rw (le-leb 1 s h, le-leb s mostPolynomials m) at (k .by-rules)) in
-    (ap stateOf (u .left) ∙ ap (λ (p : State × Step). p .0) e, u .gave ∙ ap (λ (p : State × Step). p .1) e)
-
--- the record after an answer and the step, by the rules
-abbrev ByRules : Run → ℤ → Run → Step → Type 0
-ByRules c z c′ x = (stateOf c′ ≡ answerOf roundRows (stateOf c) z .0) × (x ≡ answerOf roundRows (stateOf c) z .1)
-
-by-rules : (c : Run) (z : ℤ) (c′ : Run) (x : Step) → AnswerGives c z c′ x → ByRules c z c′ x
-by-rules c z c′ x g = (ap (λ (p : State × Step). p .0) (g .by-rules), ap (λ (p : State × Step). p .1) (g .by-rules))
-
-by-rules-prop : (c : Run) (z : ℤ) (c′ : Run) (x : Step) → IsProp (ByRules c z c′ x)
-by-rules-prop c z c′ x = ×-prop (state-set _ _) (step-set _ _)
+keeps-starts s c x h m u = rw (u .left, u .gave) (start-by-rules s (u .result .run) (stepOf (u .result .step)) (u .kept) h m)
 
 keeps-value : (c : Run) (z : ℤ) (c′ : Run) (x : Step) → ByValue c z c′ x → ByRules c z c′ x
 keeps-value c z c′ x u = rw (u .left, u .gave) (by-rules c z (u .result .run) (stepOf (u .result .step)) (u .kept))

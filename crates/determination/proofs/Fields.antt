@@ -21,20 +21,20 @@ use denote.Array.{arrayVal}
 use denote.Memory.{cellAt}
 use denote.Steps.{nothing}
 use denote.Struct.Laws as SL
-use Rattle.determination.specs.Record.{runOf}
-use Rattle.determination.specs.declared.Head.{Head}
-use Rattle.determination.specs.declared.Run.{Run}
-use Rattle.determination.specs.declared.Turn.{Turn}
-use Rattle.determination.proofs.Thin.{Data, Good, struct, enum, signed, unsigned}
-use Rattle.determination.proofs.Arrays.{arrayOf}
-use Rattle.determination.proofs.Run as R
-use Rattle.determination.proofs.Run.Laws as R′
-use Rattle.determination.proofs.Head as N
-use Rattle.determination.proofs.Head.Laws as N′
-use Rattle.determination.proofs.Step as S
-use Rattle.determination.proofs.Step.Laws as S′
-use Rattle.determination.proofs.Turn as T
-use Rattle.determination.proofs.Turn.Laws as T′
+use Rattle.run_record.specs.Record.{runOf}
+use Rattle.run_record.specs.declared.Head.{Head}
+use Rattle.run_record.specs.declared.Run.{Run}
+use Rattle.run_record.specs.declared.Turn.{Turn}
+use Rattle.lent_walks.proofs.Thin.{Data, Good, struct, enum, signed, unsigned}
+use Rattle.lent_walks.proofs.Arrays.{arrayOf}
+use Rattle.run_record.proofs.Run as R
+use Rattle.run_record.proofs.Run.Laws as R′
+use Rattle.run_record.proofs.Head as N
+use Rattle.run_record.proofs.Head.Laws as N′
+use Rattle.run_record.proofs.Step as S
+use Rattle.run_record.proofs.Step.Laws as S′
+use Rattle.run_record.proofs.Turn as T
+use Rattle.run_record.proofs.Turn.Laws as T′
 
 abbrev pub RunD : Data
 RunD = struct R.the-type R′.the-laws R′.the-plain R′.the-copy

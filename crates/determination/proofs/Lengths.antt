@@ -1,10 +1,10 @@
 -- The lengths of a record's arrays, from what owning it tells.
 use mathlib.Core.Path.{_≡_, sym, _∙_}
 use lib.ListN.{length, length-map}
-use Rattle.determination.specs.declared.Run.{Run}
-use Rattle.determination.proofs.Thin.{Data, Good, struct}
-use Rattle.determination.proofs.Run as run-type
-use Rattle.determination.proofs.Run.Laws as run-laws
+use Rattle.run_record.specs.declared.Run.{Run}
+use Rattle.lent_walks.proofs.Thin.{Data, Good, struct}
+use Rattle.run_record.proofs.Run as run-type
+use Rattle.run_record.proofs.Run.Laws as run-laws
 
 abbrev RunD : Data
 RunD = struct run-type.the-type run-laws.the-laws run-laws.the-plain run-laws.the-copy

@@ -1,14 +1,7 @@
-pub mod Thin
-pub mod Arrays
 pub mod Fields
-pub mod Pieces
-pub mod LentRead
-pub mod LentPass
 pub mod Lent
 pub mod Lengths
-pub mod Records
 pub mod Serves
-pub mod Rounds
 pub mod Worlds
 pub mod Contracts
 pub mod DemandOne

@@ -10,11 +10,11 @@ use lib.Seq.{length-take-le, getD-take}
 use Rattle.refusals.specs.Numbers.{late, pastLast, tooShort}
 use Rattle.rounds.specs.Rows.{Row, rowsWith}
 use Rattle.runs.specs.Run.{Phase, running, finished, closed, row, noRow, copied, kept, fetchOf, fetchRule, copyOf, copyRule}
-use Rattle.determination.specs.Record.{isRunning, isDone, stateIn, runPhase, stateOf}
-use Rattle.determination.specs.declared.Run.{Run}
+use Rattle.run_record.specs.Record.{isRunning, isDone, stateIn, runPhase, stateOf}
+use Rattle.run_record.specs.declared.Run.{Run}
 use Rattle.runs.proofs.Phases.{running-not-finished, closed-not-finished}
 use Rattle.runs.proofs.Held.{with-length, with-at, with-map-pattern, with-map-count}
-use Rattle.determination.proofs.Records.{done-is, done-phase}
+use Rattle.run_record.proofs.Records.{done-is, done-phase}
 
 pub total-asked : (r : Run) → r .asked ≡ stateOf r .total
 unfolding stateOf

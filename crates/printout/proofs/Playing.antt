@@ -25,10 +25,10 @@ use Rattle.rounds.specs.RoundEnd.{roundRows}
 use Rattle.runs.specs.Run.{State, Step, done, Phase, running, finished, closed, answerOf, inPhase, inRound, roundStep, endRound, ended}
 use Rattle.runs.proofs.Held.{with-length}
 use Rattle.runs.proofs.Phases.{running-not-finished, closed-not-finished}
-use Rattle.determination.specs.declared.Run.{Run}
-use Rattle.determination.specs.declared.Step as code-step
-use Rattle.determination.specs.declared.Step.the-variants as steps
-use Rattle.determination.specs.Record.{isRunning, isDone, stateIn, runPhase, stateOf, stepOf}
+use Rattle.run_record.specs.declared.Run.{Run}
+use Rattle.run_record.specs.declared.Step as code-step
+use Rattle.run_record.specs.declared.Step.the-variants as steps
+use Rattle.run_record.specs.Record.{isRunning, isDone, stateIn, runPhase, stateOf, stepOf}
 use Rattle.lines.specs.Text.{longestLine, questionLine, rowLine, endLine, refusalLine}
 use Rattle.lines.specs.Put.{Put, PutLine}
 use Rattle.lines.proofs.Putting.{put-more, put-same}

@@ -34,7 +34,7 @@ use Rattle.rounds.proofs.Answers.{Facts, facts, round-low}
 use Rattle.rounds.proofs.Restrict.{fits-append, three-pos, three-mono}
 use Rattle.rounds.proofs.RoundEnds.{roundRows-right}
 use Rattle.runs.specs.Run.{State, Step, ask, done, refused, Phase, running, finished, startOf, answerOf, fetchRule, fetchOf}
-use Rattle.determination.specs.Record.{startedOf}
+use Rattle.run_record.specs.Record.{startedOf}
 use Rattle.runs.specs.Demand.{heard, asks}
 use Rattle.runs.specs.Truthful.{enough}
 use Rattle.runs.proofs.Invariant.{Closed, At, Inv, start-inv, going-short, After, answer-running}

@@ -25,7 +25,7 @@ use Rattle.query.proofs.Opening.{opened-sound}
 use Rattle.rounds.specs.Rows.{Row, realized}
 use Rattle.rounds.specs.RoundEnd.{roundRows}
 use Rattle.runs.specs.Run.{State, Step, ask, done, refused, answerOf}
-use Rattle.determination.specs.Record.{startedOf}
+use Rattle.run_record.specs.Record.{startedOf}
 use Rattle.lines.specs.Text.{letterQ, letterR, questionLine, rowLine, endLine, refusalLine}
 use Rattle.printout.specs.Printout.{questions, questionLines, rowLines, soundLines, together, printoutOf}
 use Rattle.printout.specs.Written.{shortLine, mostLines}

@@ -15,14 +15,15 @@ use Rattle.query.specs.declared.Queried.{Queried}
 use Rattle.query.specs.declared.Queried.the-variants as of-query
 use Rattle.query.specs.Opened.{opened, openedAnswer}
 use Rattle.rounds.specs.RoundEnd.{roundRows}
-use Rattle.determination.specs.declared.Run.{Run}
-use Rattle.determination.specs.declared.Step as code-step
-use Rattle.determination.specs.declared.Step.the-variants as steps
+use Rattle.run_record.specs.declared.Run.{Run}
+use Rattle.run_record.specs.declared.Step as code-step
+use Rattle.run_record.specs.declared.Step.the-variants as steps
 use Rattle.determination.specs.declared.Row.{Row}
 use Rattle.determination.specs.declared.Fetched.{Fetched}
 use Rattle.determination.specs.declared.Fetched.the-variants as fetches
 use Rattle.runs.specs.Run.{State, Step, Fetch, answerOf, fetchOf}
-use Rattle.determination.specs.Record.{stateOf, stepOf, fetchedOf, startedOf}
+use Rattle.run_record.specs.Record.{stateOf, stepOf, startedOf}
+use Rattle.determination.specs.Served.{fetchedOf}
 use Rattle.lines.specs.declared.Line.{Line}
 use Rattle.lines.specs.Text.{lineRoom, textOf, questionLine, rowLine, endLine, refusalLine}
 use Rattle.printout.specs.declared.Stage as code-stage

@@ -24,7 +24,7 @@ use Rattle.query.specs.declared.Queried.{Queried}
 use Rattle.query.specs.declared.Queried.the-variants as of-query
 use Rattle.rounds.specs.RoundEnd.{roundRows}
 use Rattle.runs.specs.Run.{State, Step, ask, done, refused, Fetch, row, noRow, answerOf, fetchOf}
-use Rattle.determination.specs.Record.{stateOf, startedOf}
+use Rattle.run_record.specs.Record.{stateOf, startedOf}
 use Rattle.lines.specs.Text.{lineRoom, textOf, questionLine, rowLine, endLine, refusalLine}
 use Rattle.printout.specs.declared.Stage as code-stage
 use Rattle.printout.specs.declared.Stage.the-variants as stages

@@ -12,7 +12,7 @@ ghost use Rattle.refusals.specs.Limits.{mostPoints};
 ghost use Rattle.rounds.specs.Rows.{rowsWith};
 ghost use Rattle.rounds.specs.RoundEnd.{roundRows};
 ghost use Rattle.runs.specs.Run.{done, answerOf, fetchOf};
-ghost use Rattle.determination.specs.Record.{runOf, stateOf, stepOf};
+ghost use Rattle.run_record.specs.Record.{runOf, stateOf, stepOf};
 ghost use Rattle.lines.specs.Put.{Put};
 ghost use Rattle.lines.specs.Text.{longestLine, endLine};
 ghost use Rattle.printout.specs.Printout.{rowLines, together, printoutOf};
@@ -20,9 +20,6 @@ ghost use Rattle.printout.specs.Steps.{asking, Settled, Plays};
 ghost use Rattle.printout.specs.Written.{mostText, writtenOf};
 ghost use Rattle.printout.specs.Progress.{progressOf, stageOf, begunOf, onStep, onAnswer, onFetch, afterRow, nextOf, Shows};
 use determination::Fetched;
-use determination::Head;
-use determination::Run;
-use determination::Step;
 use lines::LONGEST_LINE;
 use lines::Line;
 use query::Opened;
@@ -32,6 +29,9 @@ use refusals::MOST_QUESTIONS;
 use refusals::MOST_ROWS;
 use refusals::PAST_LAST;
 use refusals::TOO_SHORT;
+use run_record::Head;
+use run_record::Run;
+use run_record::Step;
 use signs::Product;
 
 // The most lines of a printout: the questions, the rows and the last line.
@@ -263,7 +263,7 @@ fn put_question(
     match query::ask(card, Product(a)) {
         Queried::Counts(t) => {
             let z = sign_counts::panel_number(t);
-            let turn = determination::answer_parts(head, patterns, counts, products, answers, z);
+            let turn = run_record::answer_parts(head, patterns, counts, products, answers, z);
             let after = turn.head;
             let step = turn.step;
             put_step(after, step, patterns, counts, a, z, out, at)
@@ -286,7 +286,7 @@ pub fn put_lines(card: &[u8], out: &mut [u8]) -> usize
     ensures { λ r. ⌜ (take r (now (out .exit)) ≡ printoutOf (now (card .entry))) × (r ≡ length (printoutOf (now (card .entry)))) × (r ≤ mostText) ⌝ }
 {
     let opened = query::open(card);
-    let mut head = determination::first_head(opened.s);
+    let mut head = run_record::first_head(opened.s);
     let mut patterns = [0u16; MOST_ROWS];
     let mut counts = [0u16; MOST_ROWS];
     let mut products = [0u16; MOST_ROWS];

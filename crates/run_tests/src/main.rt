@@ -3,9 +3,9 @@
 use determination::Answered;
 use determination::Copied;
 use determination::Fetched;
-use determination::Run;
-use determination::Step;
 use libc::STDOUT_FILENO;
+use run_record::Run;
+use run_record::Step;
 use test_input::byte;
 use test_input::pair;
 ghost use mathlib.Core.Path.{_≡_};

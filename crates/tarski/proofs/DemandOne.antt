@@ -2,7 +2,6 @@
 -- alone.
 use mathlib.Core.Path.{_≡_, ap, subst, sym, _∙_}
 use mathlib.Core.HLevel.{×-prop, →-prop}
-use mathlib.Core.List.{List}
 use Prim.Native.Nat.{ℕ, _≤_}
 use native.Mathlib.Decide.{decLe}
 use native.Mathlib.Omega.{arith}
@@ -13,11 +12,11 @@ use Rattle.refusals.specs.Limits.{mostPolynomials}
 use Rattle.runs.specs.Run.{State, Step, ask, refused}
 use Rattle.runs.proofs.Sets.{step-set}
 use Rattle.query.specs.declared.Opened.{Opened}
-use Rattle.determination.specs.Record.{startedOf}
-use Rattle.determination.specs.DemandOne.{AnswerClaim, DemandOne}
-use Rattle.determination.specs.declared.Run.{Run}
+use Rattle.run_record.specs.Record.{startedOf}
+use Rattle.run_record.specs.DemandOne.{AnswerClaim, DemandOne}
+use Rattle.run_record.specs.declared.Run.{Run}
 use Rattle.determination.proofs.Worlds.{fact-held}
-use Rattle.determination.proofs.DemandOne.{answer-claim, fetch-claim, copy-claim, claim-prop, run-set}
+use Rattle.run_record.proofs.Promises.{answer-claim, fetch-claim, copy-claim, claim-prop, run-set}
 use Rattle.tarski.specs.declared.FlatStep.{FlatStep}
 use Rattle.tarski.specs.declared.FlatCounts.{FlatCounts}
 use Rattle.tarski.specs.Flat.{flatStepOf, keptOn, AnswerGivesFlat, StartGivesFlat}

@@ -1,7 +1,7 @@
 -- DEMAND 3 of the library for C: for every list of its calls on one lent record. Each call is known by its contract alone, which for a
 -- function over a lent record is an assertion that held where the call ended (`Held`), so that a weaker promise of any of them breaks the
 -- theorem.
-use mathlib.Core.Path.{_≡_, refl, sym, ap, ap₂, _∙_, subst}
+use mathlib.Core.Path.{_≡_, refl, ap, _∙_}
 use mathlib.Core.Logic.{_≢_, _⊎_, inl, inr}
 use mathlib.Core.HLevel.{×-prop}
 use mathlib.Core.List.{List, _++_}
@@ -12,8 +12,8 @@ use borrow.Author.Tests.{le-leb}
 use lib.Dec.{eqb·suc-zero}
 use lib.IntN.{ℤ}
 use contract.Lifetimes.{Lfts}
-use denote.Ref.{RefT, now}
-use denote.Triple.Entry.{Args, Res}
+use denote.Ref.{now}
+use denote.Triple.Entry.{Args}
 use denote.Triple.Clauses.{AtExit}
 use Rattle.refusals.specs.Limits.{mostPolynomials}
 use Rattle.rounds.specs.RoundEnd.{roundRows}
@@ -23,8 +23,8 @@ use Rattle.runs.specs.Demand.{Call, Event, phaseOf, taken, asks, given, Claim}
 use Rattle.runs.proofs.Refusals.{refusals}
 use Rattle.runs.proofs.Chains.{Keeps, FromStart, demand3-chain}
 use Rattle.runs.proofs.Sets.{step-set, state-set, fetch-set, copy-set}
-use Rattle.determination.specs.Record.{stateOf, startedOf, AnswerGives}
-use Rattle.determination.specs.declared.Run.{Run}
+use Rattle.run_record.specs.Record.{stateOf, startedOf}
+use Rattle.run_record.specs.declared.Run.{Run}
 use Rattle.determination.proofs.Worlds.{World, Held, fact-held}
 use Rattle.tarski.specs.declared.FlatStep.{FlatStep}
 use Rattle.tarski.specs.declared.FlatRow.{FlatRow}

@@ -11,8 +11,8 @@ use mathlib.Core.Bool.{true, cond, _&&_}
 use Rattle.runs.specs.Run.{State, Step, ask, done, refused, closed, newIn, startOf, answerOf}
 use Rattle.refusals.specs.Numbers.{late, wrongCount, isAmong, closingNumbers}
 use Rattle.refusals.specs.Limits.{mostPolynomials}
-use Rattle.determination.specs.Record.{stateOf, IsClosed, startedOf, StartIn}
-use Rattle.determination.specs.declared.Run.{Run}
+use Rattle.run_record.specs.Record.{stateOf, IsClosed, startedOf, StartIn}
+use Rattle.run_record.specs.declared.Run.{Run}
 use Rattle.tarski.specs.declared.FlatStep.{FlatStep}
 use Rattle.tarski.specs.Flat.{flatStepOf, flatAnsweredOf, AnswerGivesFlat, StartGivesFlat, keptOn}
 

@@ -1,7 +1,7 @@
 -- The types of the thin functions over a lent record, as walks compute with them.
 use Rattle.query.proofs.Opened as O
 use Rattle.query.proofs.Opened.Laws as O′
-use Rattle.determination.proofs.Pieces.{Piece, struct-piece}
+use Rattle.lent_walks.proofs.Pieces.{Piece, struct-piece}
 use Rattle.tarski.proofs.FlatCounts as N
 use Rattle.tarski.proofs.FlatCounts.Laws as N′
 use Rattle.tarski.proofs.FlatRow as R

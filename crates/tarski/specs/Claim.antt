@@ -31,7 +31,7 @@ use Rattle.query.specs.Opened.{countsOn, summed}
 use Rattle.query.specs.Claim.{OpenedGives}
 use Rattle.query.specs.declared.Opened.{Opened}
 use Rattle.runs.specs.Run.{Step, ask, refused}
-use Rattle.determination.specs.declared.Run.{Run}
+use Rattle.run_record.specs.declared.Run.{Run}
 use Rattle.tarski.specs.declared.Checked.{Checked}
 use Rattle.tarski.specs.declared.Number.{Number}
 use Rattle.tarski.specs.declared.FlatCounts.{FlatCounts}

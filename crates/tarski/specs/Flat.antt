@@ -31,8 +31,8 @@ use Rattle.solver.specs.declared.Solved.{Solved}
 use Rattle.solver.specs.declared.Solved.the-variants as of-solver
 use Rattle.runs.specs.Run.{State, Step, ask, done, refused, Fetch, row, noRow, Copied, copied, notCopied, Copy}
 use Rattle.refusals.specs.Numbers.{wrongCount}
-use Rattle.determination.specs.Record.{stateOf, AnswerGives, startedOf}
-use Rattle.determination.specs.declared.Run.{Run}
+use Rattle.run_record.specs.Record.{stateOf, AnswerGives, startedOf}
+use Rattle.run_record.specs.declared.Run.{Run}
 use Rattle.tarski.specs.declared.Checked.{Checked}
 use Rattle.tarski.specs.declared.Number.{Number}
 use Rattle.tarski.specs.declared.FlatCounts.{FlatCounts}

@@ -42,22 +42,22 @@ use denote.Triple.Statement.{Contract, Triple}
 use denote.Triple.Table.{entered, cited}
 use denote.Triple.Walked.{says, Stays, stay-none, stay-ref, walkOf, goes-none, goes-ref, ends-at, walked, walk-meets}
 use denote.Exit.{yes}
-use Rattle.determination.specs.Record.{stepOf, AnswerGives}
-use Rattle.determination.specs.declared.Head.{Head}
-use Rattle.determination.specs.declared.Run.{Run}
-use Rattle.determination.specs.declared.Step.{Step}
-use Rattle.determination.specs.declared.Turn.{Turn}
-use Rattle.determination.proofs.Thin.{Data, Good, signed, owned-of, opened, closed}
-use Rattle.determination.proofs.Arrays.{arrayOf, lent-array, array-back}
+use Rattle.run_record.specs.Record.{stepOf, AnswerGives}
+use Rattle.run_record.specs.declared.Head.{Head}
+use Rattle.run_record.specs.declared.Run.{Run}
+use Rattle.run_record.specs.declared.Step.{Step}
+use Rattle.run_record.specs.declared.Turn.{Turn}
+use Rattle.lent_walks.proofs.Thin.{Data, Good, signed, owned-of, opened, closed}
+use Rattle.lent_walks.proofs.Arrays.{arrayOf, lent-array, array-back}
 use Rattle.determination.proofs.Fields.{RunD, WordD, PhaseD, ShortD, ByteD, Known, known, good, apart, whole as together}
 use Rattle.determination.proofs.Fields.{HeadD, StepD, TurnD, headOf, head-is, turn-step, after, after-known}
-use Rattle.determination.proofs.Run as R
-use Rattle.determination.proofs.Turn as T
-use Rattle.determination.proofs.Turn.Laws as T′
-use Rattle.determination.proofs.answer_parts as parts
-use Rattle.determination.proofs.answer_parts.Symbol as parts-def
-use Rattle.determination.proofs.answer_parts.Symbol.{name as #determination·answer-parts}
-use Rattle.determination.proofs.answer_parts.Met as parts-thm
+use Rattle.run_record.proofs.Run as R
+use Rattle.run_record.proofs.Turn as T
+use Rattle.run_record.proofs.Turn.Laws as T′
+use Rattle.run_record.proofs.answer_parts as parts
+use Rattle.run_record.proofs.answer_parts.Symbol as parts-def
+use Rattle.run_record.proofs.answer_parts.Symbol.{name as #run-record·answer-parts}
+use Rattle.run_record.proofs.answer_parts.Met as parts-thm
 use Rattle.determination.proofs.answer_lent.Key.{name as #determination·answer-lent}
 use Rattle.determination.proofs.answer_lent as lent
 use Rattle.determination.proofs.answer_lent.Statement as stated
@@ -166,7 +166,7 @@ module _ {M : Type 1} (𝓤 : URA M) (H : Heap 𝓤) (A : Atoms 𝓤) (W : Given
     Said t ws = AnswerGives h z (after t (ws .1 .0) (ws .1 .1 .0) (ws .1 .1 .1 .0) (ws .1 .1 .1 .1 .0)) (stepOf (t .step))
 
   module _ (C : Calls 𝓤 H) (Λ : Loops 𝓤 H) (fm : FmC 𝓤 H (W .laws) C)
-      (cites : Triple 𝓤 (C #determination·answer-parts) (Parts 𝓤 H A at-mem run)) where
+      (cites : Triple 𝓤 (C #run-record·answer-parts) (Parts 𝓤 H A at-mem run)) where
     walk : ent 𝓤 (onEntry 𝓤 H A lent.signature (κ, tt) (q, tt) x at) (WpFn 𝓤 H C Λ code.function (vptr b o ∷ NumD .val z ∷ []) Post)
     walk =
         qed W ((‵ (flft κ q) ⊛ ‵ ftrue) ∷ ‵ (owns (MutRef (named 0) κ (RunD .row) ∷ NumD .row ∷ []) x at) ∷ []) ∵ split ! $ move ! (2 ∷
@@ -309,7 +309,7 @@ module _ {M : Type 1} (𝓤 : URA M) (H : Heap 𝓤) (A : Atoms 𝓤) (W : Given
 
 module _ {M : Type 1} (𝓤 : URA M) (H : Heap 𝓤) (A : Atoms 𝓤) (W : Given 𝓤 H A) (at-mem : Memory → SProp 𝓤) (run : Routine → Fun 𝓤)
     (𝓣 : Tables 𝓤 H) where
-  lent-meets : Triple 𝓤 (𝓣 .C #determination·answer-parts) (Parts 𝓤 H A at-mem run)
+  lent-meets : Triple 𝓤 (𝓣 .C #run-record·answer-parts) (Parts 𝓤 H A at-mem run)
       → Meets 𝓤 H A lent.signature (WpFn 𝓤 H (𝓣 .C) (𝓣 .Λ) code.function) (lent.spec 𝓤 H A at-mem run)
   lent-meets cites =
       walk-meets 𝓤 H A lent.ended stayed W (
@@ -327,5 +327,5 @@ answer-lent-spec 𝓤 H 𝓜 𝓖 𝓡 =
     entered 𝓤 H (tripleOf 𝓤 H (𝓖 .A) lent.signature (lent.spec 𝓤 H (𝓖 .A) (𝓜 .mem) (𝓡 .run)))
     (tables 𝓤 H 𝓜 𝓡 code.env .C) (tables 𝓤 H 𝓜 𝓡 code.env .Λ) #determination·answer-lent code.function (code.unfolded 𝓤 H 𝓜 𝓡)
     (lent-meets 𝓤 H (𝓖 .A) (givenOf 𝓤 H 𝓜 𝓖) (𝓜 .mem) (𝓡 .run) (tablesOf 𝓤 H 𝓜 (tables 𝓤 H 𝓜 𝓡 code.env))
-    (cited 𝓤 H (Parts 𝓤 H (𝓖 .A) (𝓜 .mem) (𝓡 .run)) 𝓜 𝓡 code.env #determination·answer-parts parts-def.routine
-    code.calls-determination·answer-parts (parts-thm.met 𝓤 H 𝓜 𝓖 𝓡)))
+    (cited 𝓤 H (Parts 𝓤 H (𝓖 .A) (𝓜 .mem) (𝓡 .run)) 𝓜 𝓡 code.env #run-record·answer-parts parts-def.routine
+    code.calls-run-record·answer-parts (parts-thm.met 𝓤 H 𝓜 𝓖 𝓡)))

@@ -1,7 +1,7 @@
 -- `determination::answer_through` meets its contract: a walk of its MIR, by hand. The record in the local `kept` is lent for a lifetime
 -- that is made for the call; `answer_lent` is called; the lifetime ends, and the record comes back at the last value that `answer_lent`
 -- ensures. All that the proof knows of `answer_lent` is that it meets its contract.
-use mathlib.Core.Path.{_≡_, refl, ap, subst}
+use mathlib.Core.Path.{refl, ap, subst}
 use mathlib.Core.List.{[], _∷_, List}
 use lib.IntN.{ℤ}
 use Prim.Native.Nat.{ℕ}
@@ -38,17 +38,17 @@ use denote.Triple.Table.{entered, cited}
 use denote.Triple.Clauses.{ensured, lasts}
 use denote.Triple.Walked.{says, Stays, stay-none, walkOf, goes-none, ends-at, walked, walk-meets}
 use denote.Exit.{yes}
-use Rattle.determination.specs.Record.{stepOf, AnswerGives}
-use Rattle.determination.specs.declared.Run.{Run}
-use Rattle.determination.specs.declared.Step.{Step}
+use Rattle.run_record.specs.Record.{stepOf, AnswerGives}
+use Rattle.run_record.specs.declared.Run.{Run}
+use Rattle.run_record.specs.declared.Step.{Step}
 use Rattle.determination.specs.declared.Answered.{Answered}
-use Rattle.determination.proofs.Thin.{Data, Good, struct, enum, signed, owned-of, lent, back}
-use Rattle.determination.proofs.Run as T
-use Rattle.determination.proofs.Run.Laws as T′
+use Rattle.lent_walks.proofs.Thin.{Data, Good, struct, enum, signed, owned-of, lent, back}
+use Rattle.run_record.proofs.Run as T
+use Rattle.run_record.proofs.Run.Laws as T′
 use Rattle.determination.proofs.Answered as P
 use Rattle.determination.proofs.Answered.Laws as P′
-use Rattle.determination.proofs.Step as S
-use Rattle.determination.proofs.Step.Laws as S′
+use Rattle.run_record.proofs.Step as S
+use Rattle.run_record.proofs.Step.Laws as S′
 use Rattle.determination.proofs.answer_lent as answer
 use Rattle.determination.proofs.answer_lent.Symbol as answer-def
 use Rattle.determination.proofs.answer_lent.Symbol.{name as #determination·answer-lent}

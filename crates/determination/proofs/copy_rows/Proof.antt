@@ -4,9 +4,9 @@ use mathlib.Core.Bool.{true}
 use native.Mathlib.Omega.{arith}
 use borrow.Author.Tests.{not-true, not-false}
 use borrow.Author.Needs.{needs}
-use Rattle.determination.specs.Record.{isDone}
+use Rattle.run_record.specs.Record.{isDone}
 use Rattle.determination.proofs.Lengths.{lengths}
-use Rattle.determination.proofs.Records.{done-phase}
+use Rattle.run_record.proofs.Records.{done-phase}
 use Rattle.determination.proofs.Serves.{copy-late, copy-short-patterns, copy-short-counts, copy-all}
 use Rattle.determination.proofs.copy_rows.Statement.{statement}
 use Rattle.determination.proofs.copy_rows.Tie as tie

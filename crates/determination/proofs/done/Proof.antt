@@ -1,5 +1,5 @@
 -- `determination::done` meets its contract.
-use Rattle.determination.proofs.Records.{test-not-done, test-done}
+use Rattle.run_record.proofs.Records.{test-not-done, test-done}
 use Rattle.determination.proofs.done.Statement.{statement}
 use Rattle.determination.proofs.done.Tie as tie
 

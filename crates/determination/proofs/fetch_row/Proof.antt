@@ -5,9 +5,9 @@ use Prim.Native.Nat.{_<_}
 use native.Mathlib.Omega.{arith}
 use borrow.Author.Tests.{not-true, not-false}
 use borrow.Author.Needs.{needs}
-use Rattle.determination.specs.Record.{isDone}
+use Rattle.run_record.specs.Record.{isDone}
 use Rattle.determination.proofs.Lengths.{lengths}
-use Rattle.determination.proofs.Records.{done-phase}
+use Rattle.run_record.proofs.Records.{done-phase}
 use Rattle.determination.proofs.Serves.{fetch-late, fetch-past, fetch-at}
 use Rattle.determination.proofs.fetch_row.Statement.{statement}
 use Rattle.determination.proofs.fetch_row.Tie as tie

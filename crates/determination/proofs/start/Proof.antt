@@ -3,9 +3,9 @@ use mathlib.Core.Path.{_≡_}
 use Prim.Native.Nat.{ℕ}
 use borrow.Author.Needs.{needs}
 use borrow.Author.Tests.{le-leb, lt-leb}
-use Rattle.determination.specs.Record.{closedPhase, IsClosed, startedOf}
-use Rattle.determination.specs.declared.Run.{Run}
-use Rattle.determination.proofs.Records.{first-gives, closed-phase}
+use Rattle.run_record.specs.Record.{closedPhase, IsClosed, startedOf}
+use Rattle.run_record.specs.declared.Run.{Run}
+use Rattle.run_record.proofs.Records.{first-gives, closed-phase}
 use Rattle.determination.proofs.start.Statement.{statement}
 use Rattle.determination.proofs.start.Tie as tie
 

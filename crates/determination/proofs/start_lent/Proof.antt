@@ -34,14 +34,14 @@ use denote.Triple.Statement.{Contract, Triple}
 use denote.Triple.Table.{entered, cited}
 use denote.Triple.Walked.{says, Stays, stay-none, stay-ref, walkOf, goes-none, goes-ref, ends-at, walked, walk-meets}
 use denote.Exit.{yes}
-use Rattle.determination.specs.Record.{stepOf, runOf, StartIn}
-use Rattle.determination.specs.declared.Run.{Run}
-use Rattle.determination.specs.declared.Step.{Step}
-use Rattle.determination.specs.declared.Turn.{Turn}
-use Rattle.determination.proofs.Thin.{Good, owned-of, opened, closed, calls-plain}
+use Rattle.run_record.specs.Record.{stepOf, runOf, StartIn}
+use Rattle.run_record.specs.declared.Run.{Run}
+use Rattle.run_record.specs.declared.Step.{Step}
+use Rattle.run_record.specs.declared.Turn.{Turn}
+use Rattle.lent_walks.proofs.Thin.{Good, owned-of, opened, closed, calls-plain}
 use Rattle.determination.proofs.Fields.{RunD, WordD, PhaseD, Known, known, good, apart, whole as together}
 use Rattle.determination.proofs.Fields.{HeadD, StepD, TurnD, headOf, head-is, turn-step, after-known}
-use Rattle.determination.proofs.Run as R
+use Rattle.run_record.proofs.Run as R
 use Rattle.determination.proofs.started as begins
 use Rattle.determination.proofs.started.Symbol as begins-def
 use Rattle.determination.proofs.started.Symbol.{name as #determination·started}

@@ -7,7 +7,7 @@ use lib.ListN.{length, take}
 use lib.Seq.{length-take-le}
 use Rattle.refusals.specs.Limits.{mostPoints, mostQuestions}
 use Rattle.runs.specs.Run.{State, Step}
-use Rattle.determination.specs.Record.{runOf, stateOf}
+use Rattle.run_record.specs.Record.{runOf, stateOf}
 use Rattle.printout.specs.Printout.{printoutOf}
 use Rattle.printout.specs.Written.{mostLines, shortLine, mostText}
 use Rattle.printout.specs.Steps.{asking, Plays}

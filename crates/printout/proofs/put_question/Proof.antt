@@ -3,7 +3,7 @@ use mathlib.Core.Path.{sym, subst}
 use native.Mathlib.Omega.{arith}
 use borrow.Author.Needs.{needs, sfits-of}
 use mir.Facts.{toZ-ofZ}
-use Rattle.determination.specs.Record.{runOf, stateOf}
+use Rattle.run_record.specs.Record.{runOf, stateOf}
 use Rattle.printout.specs.Steps.{Settled}
 use Rattle.printout.proofs.Playing.{settled, last-few, over-line, plays-same, next-counts, next-refused}
 use Rattle.printout.proofs.put_question.Statement.{statement}

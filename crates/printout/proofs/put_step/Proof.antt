@@ -7,7 +7,7 @@ use lib.ListN.{length, take}
 use lib.Seq.{length-take-le}
 use mir.Syntax.{w64}
 use mir.ValLaws.{toZ-ofZ}
-use Rattle.determination.specs.Record.{runOf, stepOf}
+use Rattle.run_record.specs.Record.{runOf, stepOf}
 use Rattle.printout.proofs.Playing.{step-asks, step-ends, step-refuses}
 use Rattle.printout.proofs.put_step.Statement.{statement}
 use Rattle.printout.proofs.put_step.Tie as tie

@@ -1,7 +1,7 @@
 -- `tarski::flat_step` meets its contract.
 use mathlib.Core.Path.{sym, ap}
-use Rattle.determination.specs.Record.{stepOf}
-use Rattle.determination.specs.declared.Step.{Step}
+use Rattle.run_record.specs.Record.{stepOf}
+use Rattle.run_record.specs.declared.Step.{Step}
 use Rattle.tarski.specs.declared.FlatStep.{FlatStep}
 use Rattle.tarski.specs.Flat.{flatStepOf}
 use borrow.Author.Needs.{needs}

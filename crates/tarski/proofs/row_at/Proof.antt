@@ -1,6 +1,6 @@
 -- `tarski::row_at` meets its contract.
 use mathlib.Core.Path.{sym, ap, _∙_}
-use Rattle.determination.specs.Record.{fetchedOf}
+use Rattle.determination.specs.Served.{fetchedOf}
 use Rattle.determination.specs.declared.Fetched.{Fetched}
 use Rattle.tarski.specs.declared.FlatRow.{FlatRow}
 use Rattle.tarski.specs.Flat.{rowOf}

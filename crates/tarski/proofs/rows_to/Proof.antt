@@ -3,7 +3,7 @@ use mathlib.Core.Path.{_≡_, sym, ap, _∙_}
 use mathlib.Core.List.{List}
 use Prim.Native.Nat.{ℕ}
 use Rattle.runs.specs.Run.{Copy}
-use Rattle.determination.specs.Record as record-of
+use Rattle.determination.specs.Served as served
 use Rattle.determination.specs.declared.Copied.{Copied}
 use Rattle.tarski.specs.declared.FlatCopied.{FlatCopied}
 use Rattle.tarski.specs.Flat.{copiedOf, leftOf}
@@ -13,11 +13,11 @@ use Rattle.tarski.proofs.rows_to.Tie as tie
 
 -- what the code's count shows
 shown : Copied → FlatCopied
-shown found = copiedOf (record-of.copiedOf found)
+shown found = copiedOf (served.copiedOf found)
 
 -- the slices a and b left with it
 left : (found : Copied) (a b : List ℕ) (t : FlatCopied) (c : Copy) → t ≡ shown found → record
-    { result = record-of.copiedOf found; patternsLeft = a; countsLeft = b } ≡ c → (t, a, b) ≡ leftOf c
+    { result = served.copiedOf found; patternsLeft = a; countsLeft = b } ≡ c → (t, a, b) ≡ leftOf c
 unfolding shown
 left found a b t c e f = ap (λ (u : FlatCopied). (u, a, b)) e ∙ ap leftOf f
 

@@ -6,12 +6,12 @@ use mir.Syntax.{w64}
 use contract.Running.{givenOf, tables, tablesOf}
 use denote.Triple.Spec.{tripleOf}
 use denote.Triple.Table.{entered, cited}
-use Rattle.determination.specs.Record.{stepOf, AnswerGives}
-use Rattle.determination.specs.declared.Run.{Run}
-use Rattle.determination.specs.declared.Step.{Step}
+use Rattle.run_record.specs.Record.{stepOf, AnswerGives}
+use Rattle.run_record.specs.declared.Run.{Run}
+use Rattle.run_record.specs.declared.Step.{Step}
 use Rattle.determination.proofs.Lent.{run, step as code-step}
-use Rattle.determination.proofs.LentPass.{passes-on}
-use Rattle.determination.proofs.Pieces.{signed-passed}
+use Rattle.lent_walks.proofs.LentPass.{passes-on}
+use Rattle.lent_walks.proofs.Pieces.{signed-passed}
 use Rattle.determination.proofs.answer_lent as take
 use Rattle.determination.proofs.answer_lent.Symbol as take-def
 use Rattle.determination.proofs.answer_lent.Met as take-thm

@@ -7,8 +7,8 @@ use denote.Triple.Spec.{tripleOf}
 use denote.Triple.Table.{entered, cited}
 use Rattle.query.specs.Opened.{openedAnswer}
 use Rattle.query.specs.declared.Opened.{Opened}
-use Rattle.determination.proofs.LentRead.{reads}
-use Rattle.determination.proofs.Pieces.{unsigned-passed}
+use Rattle.lent_walks.proofs.LentRead.{reads}
+use Rattle.lent_walks.proofs.Pieces.{unsigned-passed}
 use Rattle.tarski.specs.declared.FlatCounts.{FlatCounts}
 use Rattle.tarski.specs.Flat.{flatCountsOf}
 use Rattle.tarski.proofs.Lent.{opened, counts}

@@ -44,8 +44,8 @@ use denote.Exit.{yes}
 use Rattle.query.specs.declared.Opened.{Opened}
 use Rattle.query.proofs.Opened as O
 use Rattle.query_list.specs.Listing.{openedListing}
-use Rattle.determination.proofs.Pieces.{pieceOf}
-use Rattle.determination.proofs.Thin.{Data, struct, Good, owned-of, looked, shut}
+use Rattle.lent_walks.proofs.Pieces.{pieceOf}
+use Rattle.lent_walks.proofs.Thin.{Data, struct, Good, owned-of, looked, shut}
 use Rattle.tarski.specs.Numbered.{flatListing}
 use Rattle.tarski.specs.declared.FlatNumbered.{FlatNumbered}
 use Rattle.tarski.proofs.Lent.{opened}

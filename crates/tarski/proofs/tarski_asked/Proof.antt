@@ -2,7 +2,7 @@
 -- shut again; `asked` is called on the copy. All that the proof knows of `asked` is that it meets its contract. A `&` is Copy: what it owns
 -- is had twice, one copy is kept whole for the exit, and the other is taken apart.
 use mathlib.Core.Path.{_≡_, refl}
-use mathlib.Core.List.{List, [], _∷_}
+use mathlib.Core.List.{[], _∷_}
 use Prim.Native.Nat.{ℕ}
 use mir.Syntax.{named, w64}
 use mir.Val.{Val, vptr}
@@ -30,12 +30,12 @@ use denote.Triple.Spec.{Meets, tripleOf}
 use denote.Triple.Table.{entered, cited}
 use denote.Triple.Walked.{says, Stays, stay-none-ref, walkOf, goes-none-ref, ends-at, walked, walk-meets}
 use denote.Exit.{yes}
-use Rattle.determination.specs.Record.{stateOf}
-use Rattle.determination.specs.declared.Run.{Run}
+use Rattle.run_record.specs.Record.{stateOf}
+use Rattle.run_record.specs.declared.Run.{Run}
 use Rattle.determination.proofs.Lent.{run as run-piece}
-use Rattle.determination.proofs.Pieces.{pieceOf}
-use Rattle.determination.proofs.Thin.{Data, Good, unsigned, owned-of, looked, shut, calls-plain}
-use Rattle.determination.proofs.Run as T
+use Rattle.lent_walks.proofs.Pieces.{pieceOf}
+use Rattle.lent_walks.proofs.Thin.{Data, Good, unsigned, owned-of, looked, shut, calls-plain}
+use Rattle.run_record.proofs.Run as T
 use Rattle.determination.proofs.asked as take
 use Rattle.determination.proofs.asked.Symbol as take-def
 use Rattle.determination.proofs.asked.Symbol.{name as #determination·asked}

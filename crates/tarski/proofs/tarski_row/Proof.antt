@@ -6,11 +6,11 @@ use contract.Running.{givenOf, tables, tablesOf}
 use denote.Triple.Spec.{tripleOf}
 use denote.Triple.Table.{entered, cited}
 use Rattle.runs.specs.Run.{fetchOf}
-use Rattle.determination.specs.Record.{stateOf}
-use Rattle.determination.specs.declared.Run.{Run}
+use Rattle.run_record.specs.Record.{stateOf}
+use Rattle.run_record.specs.declared.Run.{Run}
 use Rattle.determination.proofs.Lent.{run}
-use Rattle.determination.proofs.LentRead.{reads}
-use Rattle.determination.proofs.Pieces.{unsigned-passed}
+use Rattle.lent_walks.proofs.LentRead.{reads}
+use Rattle.lent_walks.proofs.Pieces.{unsigned-passed}
 use Rattle.tarski.specs.declared.FlatRow.{FlatRow}
 use Rattle.tarski.specs.Flat.{rowOf}
 use Rattle.tarski.proofs.Lent.{row}

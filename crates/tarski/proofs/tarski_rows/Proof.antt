@@ -40,12 +40,12 @@ use denote.Triple.Table.{entered, cited}
 use denote.Triple.Walked.{says, Stays, stay-none-ref, gave-slice, walkOf, goes-none-ref, goes-gave-slice, ends-at, walked, walk-meets}
 use denote.Exit.{yes}
 use Rattle.runs.specs.Run.{copyOf}
-use Rattle.determination.specs.Record.{stateOf}
-use Rattle.determination.specs.declared.Run.{Run}
+use Rattle.run_record.specs.Record.{stateOf}
+use Rattle.run_record.specs.declared.Run.{Run}
 use Rattle.determination.proofs.Lent.{run as run-piece}
-use Rattle.determination.proofs.Pieces.{pieceOf}
-use Rattle.determination.proofs.Thin.{Data, struct, Good, owned-of, looked, shut}
-use Rattle.determination.proofs.Run as T
+use Rattle.lent_walks.proofs.Pieces.{pieceOf}
+use Rattle.lent_walks.proofs.Thin.{Data, struct, Good, owned-of, looked, shut}
+use Rattle.run_record.proofs.Run as T
 use Rattle.tarski.specs.Flat.{leftOf}
 use Rattle.tarski.specs.declared.FlatCopied.{FlatCopied}
 use Rattle.tarski.proofs.FlatCopied as F
