@@ -1,4 +1,4 @@
--- `determination::answer_parts` meets its contract: the rules of a run that goes on, or the record as it was.
+-- `run_record::answer_parts` meets its contract: the rules of a run that goes on, or the record as it was.
 use mathlib.Core.Bool.{Bool, true, false}
 use mathlib.Core.List.{[]}
 use mathlib.Core.Path.{_≡_, refl, sym, _∙_}

@@ -1,4 +1,4 @@
--- `determination::ask_next` meets its contract: the new record stands for what the rules give.
+-- `run_record::ask_next` meets its contract: the new record stands for what the rules give.
 use mathlib.Core.List.{[]}
 use mathlib.Core.Path.{sym, _∙_}
 use native.Mathlib.Omega.{arith}

@@ -1,4 +1,4 @@
--- `determination::begin` meets its contract.
+-- `run_record::begin` meets its contract.
 use mathlib.Core.Path.{_≡_, sym, ap, _∙_}
 use Prim.Native.Nat.{_^_, _≤_}
 use native.Mathlib.Omega.{arith}

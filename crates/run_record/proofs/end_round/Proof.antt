@@ -1,4 +1,4 @@
--- `determination::end_round` meets its contract: the rows that the call left are those of the rules, and fit the next round.
+-- `run_record::end_round` meets its contract: the rows that the call left are those of the rules, and fit the next round.
 use mathlib.Core.List.{List, [], _∷_, _++_}
 use mathlib.Core.Option.{Option}
 use mathlib.Core.Path.{_≡_, sym, _∙_}

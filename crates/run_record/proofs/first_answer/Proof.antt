@@ -1,4 +1,4 @@
--- `determination::first_answer` meets its contract.
+-- `run_record::first_answer` meets its contract.
 use mathlib.Core.List.{List, []}
 use mathlib.Core.Path.{_≡_, sym, _∙_}
 use Prim.Native.Nat.{_<_}

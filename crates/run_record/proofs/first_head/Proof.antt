@@ -1,4 +1,4 @@
--- `determination::first_head` meets its contract.
+-- `run_record::first_head` meets its contract.
 use mathlib.Core.Path.{refl}
 use Rattle.run_record.specs.Record.{runOf}
 use Rattle.run_record.proofs.Records.{first-gives}

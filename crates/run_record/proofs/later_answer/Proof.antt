@@ -1,4 +1,4 @@
--- `determination::later_answer` meets its contract.
+-- `run_record::later_answer` meets its contract.
 use mathlib.Core.List.{[]}
 use mathlib.Core.Path.{_≡_, sym, _∙_}
 use Prim.Native.Nat.{_-_, _+_}

@@ -1,4 +1,4 @@
--- `determination::next_round` meets its contract.
+-- `run_record::next_round` meets its contract.
 use mathlib.Core.List.{[]}
 use mathlib.Core.Path.{_≡_}
 use Prim.Native.Nat.{_-_, suc}

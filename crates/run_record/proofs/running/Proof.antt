@@ -1,4 +1,4 @@
--- `determination::running` meets its contract.
+-- `run_record::running` meets its contract.
 use mathlib.Core.List.{[]}
 use mathlib.Core.Path.{_∙_}
 use borrow.Author.Needs.{needs}

@@ -1,4 +1,4 @@
--- `determination::sound` meets its contract.
+-- `run_record::sound` meets its contract.
 use mathlib.Core.Bool.{true}
 use mathlib.Core.List.{[]}
 use mathlib.Core.Path.{_≡_, sym, _∙_}
