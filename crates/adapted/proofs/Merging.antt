@@ -487,7 +487,8 @@ module _ (L : List ℕ) (w mid top : ℕ) (r : Rising L) (below-3 : Below (3 * w
                 let b' : get_or low (get_or at k 0) 0 < w = omega (arith, s.below (get_or at k 0) i, s.bound) in
                 sym (rw f' at (digits_mod d b'))
 
-            found : (k : ℕ) → k < length L → Dec (k < mid) → Dec (k < top) → (get_or at k 0 < n) × (get_or low (get_or at k 0) 0 ≡ get_or L k 0 % w)
+            found : (k : ℕ) → k < length L → Dec (k < mid) → Dec (k < top) → (get_or at k 0 < n)
+                × (get_or low (get_or at k 0) 0 ≡ get_or L k 0 % w)
             found k i (yes d) f =
                 let j = s.zero-block.noted k (omega arith) (omega arith) in
                 (j, low_part 0 0 k (omega arith) (s.zero-block.places k (omega arith) (omega arith)) j)

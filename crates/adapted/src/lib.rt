@@ -2,6 +2,8 @@
 // list of products by recursion on the number of polynomials. The definitions are in specs/ of `signs` and here.
 //
 // The functions with a `requires` are for the crates above this one, whose calls show it.
+#![tactic(auto)]
+
 ghost use Rattle.std.specs.Prelude.{◌≡◌, cond, [], ◌∷◌, suc, ◌+◌, ◌*◌, ◌^◌, ◌≤◌, ◌<◌, min, eqb, length, get_or, set};
 ghost use Rattle.std.proofs.lemmas.List.Edits.{sets};
 ghost use Rattle.refusals.specs.Limits.{most_polynomials, most_points};
@@ -140,7 +142,7 @@ pub fn having(low: &[u16], mark: &[u8], k: usize, out: &mut [u16]) -> usize
 
 // Writes the adapted list of the rising list l, patterns of i polynomials, to out from at on, with b added to each product.
 // Returns the place after it.
-#[cycle(adapted_adapted_high_adapted_parts_adapted_split)]
+#[cycle(adapting)]
 pub fn adapted(l: &[u16], i: usize, b: u16, out: &mut [u16], at: usize) -> usize
     requires i_le_most_polynomials { (i ≤ most_polynomials) × (b + 3 ^ i ≤ 3 ^ most_polynomials) }
     requires rising { Rising l.now × Below (3 ^ i) l.now }
@@ -159,7 +161,7 @@ pub fn adapted(l: &[u16], i: usize, b: u16, out: &mut [u16], at: usize) -> usize
 }
 
 // The same for at least two patterns of i + 1 polynomials.
-#[cycle(adapted_adapted_high_adapted_parts_adapted_split)]
+#[cycle(adapting)]
 fn adapted_split(l: &[u16], i: usize, b: u16, out: &mut [u16], at: usize) -> usize
     requires i_lt_most_polynomials { (i < most_polynomials) × (b + 3 ^ suc i ≤ 3 ^ most_polynomials) }
     requires rising { Rising l.now × Below (3 ^ suc i) l.now }
@@ -176,7 +178,7 @@ fn adapted_split(l: &[u16], i: usize, b: u16, out: &mut [u16], at: usize) -> usi
 }
 
 // The three parts of an adapted list, from the patterns of i polynomials that are left and their marks.
-#[cycle(adapted_adapted_high_adapted_parts_adapted_split)]
+#[cycle(adapting)]
 fn adapted_parts(
     low: &[u16],
     mark: &[u8],
@@ -198,7 +200,7 @@ fn adapted_parts(
 }
 
 // The part for the patterns with at least k signs.
-#[cycle(adapted_adapted_high_adapted_parts_adapted_split)]
+#[cycle(adapting)]
 fn adapted_high(
     low: &[u16],
     mark: &[u8],

@@ -8,7 +8,7 @@ use Prim.Native.Nat.{ℕ, ◌+◌, ◌^◌, ◌<◌, ◌≤◌}
 use native.Mathlib.Omega.{arith}
 use native.Mathlib.Decide.{dec_lt}
 use contract.Lifetimes.{Lfts}
-use denote.Ref.{Bor}
+use denote.Ref.{Bor, MutBor}
 use lib.ListN.{length, take, drop}
 use lib.Seq.{take_at, drop_at}
 use borrow.Author.Tests.{le-leb}
@@ -112,6 +112,6 @@ module _ (s : ℕ) (L out : List ℕ) where
       counts (yes p) (yes q) = shown _ (refused-many s L out q) (by_3 (λ h. let x = h.1 in omega arith))
       counts (yes p) (no q) = lists (omega arith, omega arith) (is_patterns s L) refl
 
-pub call_gives : (κs : Lfts 2) (s : ℕ) (patterns out out' : Bor (List ℕ)) (o : Listed)
+pub call_gives : (κs : Lfts 2) (s : ℕ) (patterns : Bor (List ℕ)) (out out' : MutBor (List ℕ)) (o : Listed)
     → call.Learnt κs (s, (patterns, (out, tt))) o (s, (patterns, (out', tt))) → Gives s patterns.now out.now o out'.now
 call_gives κs s patterns out out' o (e, f) = rw (e, f) (list_gives s patterns.now out.now)

@@ -1,5 +1,7 @@
 // The adapted list of a list of patterns, for programs (document 01, "Adapted lists"): the products whose queries the solver's numbers are, in their
 // order. The list itself is worked out in `adapted`.
+#![tactic(auto)]
+
 ghost use Rattle.std.specs.Prelude.{◌≡◌, ◌≤◌};
 ghost use Rattle.refusals.specs.Limits.{most_polynomials};
 ghost use Rattle.adapted_list.specs.Listing.{is_patterns, list_of};
@@ -9,7 +11,7 @@ use refusals::{MOST_POINTS, MOST_POLYNOMIALS, TOO_SHORT, WRONG_COUNT, WRONG_LIST
 use signs::{below, bound, rising};
 
 // What a call answers: that the list is written, or document 01's number of the cause why it is not.
-#[derive(Drop)]
+#[derive(Clone, Copy)]
 pub enum Listed {
     Written,
     Refused(u16),

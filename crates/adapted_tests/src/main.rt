@@ -1,14 +1,16 @@
 // Compares the adapted lists of `adapted`, and the queries and signs of `signs`, with those of a file, which tools/adapted_lists.py made by another route.
 //
 // The file's layout is written there. Nothing is known of what a file holds: each record is tested before it is used.
+#![tactic(auto)]
+
 ghost use Rattle.std.specs.Prelude.{◌≡◌, true, ◌+◌, ◌*◌, ◌^◌, ◌≤◌, ◌<◌, length};
 ghost use Rattle.refusals.specs.Limits.{most_polynomials, most_points};
 ghost use Rattle.signs.specs.Lists.{Below, Rising};
 ghost use Rattle.adapted_tests.specs.Counts.{Counted, Further};
 
-use libc::STDOUT_FILENO;
 use refusals::{MOST_POINTS, MOST_POLYNOMIALS};
 use signs::{Pattern, Product};
+use std::io;
 
 // Whether a list is rising and below a bound, from its end down.
 fn is_rising(list: &[u16], bound: u16) -> bool
@@ -105,7 +107,7 @@ fn queries_differ(file: &[u8], at: usize, q: usize, s: usize, patterns: &[u16]) 
 }
 
 // How many bytes of the file are passed, and what was compared and found to differ in them.
-#[derive(Drop)]
+#[derive(Clone, Copy)]
 struct Progress {
     at: usize,
     lists: usize,
@@ -171,17 +173,13 @@ fn next(file: &[u8], p: Progress) -> Progress
     compare_record(file, s, q, r, p)
 }
 
-fn print_count(name: &[u8], n: usize, differ: usize) {
-    io::write_all(STDOUT_FILENO, name);
-    io::print_decimal(STDOUT_FILENO, n as u64);
-    io::write_all(STDOUT_FILENO, b", differ ");
-    io::print_decimal(STDOUT_FILENO, differ as u64);
-    io::write_all(STDOUT_FILENO, b"\n");
+fn print_count(rt: &impl Print, name: &str, n: usize, differ: usize) -> io::Result<()> {
+    println!(rt; "{name} {n}, differ {differ}")
 }
 
 // Compares every record of the file, and prints how many lists and queries were compared and how many of them differ,
 // or where the first malformed record begins.
-fn compare_all(file: &[u8]) {
+fn compare_all(rt: &impl Print, file: &[u8]) -> io::Result<()> {
     let mut p = Progress {
         at: 0,
         lists: 0,
@@ -192,23 +190,19 @@ fn compare_all(file: &[u8]) {
     while p.at < file.len() {
         let n = next(file, p);
         if n.at == p.at {
-            io::write_all(STDOUT_FILENO, b"malformed record at byte ");
-            io::print_decimal(STDOUT_FILENO, p.at as u64);
-            io::write_all(STDOUT_FILENO, b"\n");
-            return;
+            return println!(rt; "malformed record at byte {}", p.at);
         }
         p = n;
     }
-    print_count(b"lists ", p.lists, p.unlike);
-    print_count(b"queries ", p.queries, p.wrong);
+    print_count(rt, "lists", p.lists, p.unlike)?;
+    print_count(rt, "queries", p.queries, p.wrong)
 }
 
-fn main() {
-    let mut file = io::large_buffer();
-    let n = test_input::read_argument(1, &mut file);
+fn main(rt: HostRuntime) -> io::Result<()> {
+    let mut file = [0u8; test_input::ROOM];
+    let n = test_input::read_argument(&rt, 1, &mut file);
     if n == file.len() {
-        io::write_all(STDOUT_FILENO, b"the file is too long\n");
-        return;
+        return println!(rt; "the file is too long");
     }
-    compare_all(&file[..n]);
+    compare_all(&rt, &file[..n])
 }

@@ -1,73 +1,77 @@
 // Reads the cards of the file that the first argument names, each after its length in two bytes, and writes the printout of each, then what a slice of
 // one byte gets: `X`, the number that refuses it and the byte, as it was.
-ghost use Rattle.std.specs.Prelude.{◌+◌, ◌≤◌, ◌<◌, length};
+#![tactic(auto)]
 
-use libc::STDOUT_FILENO;
+ghost use Rattle.std.specs.Prelude.{◌+◌, ◌≤◌, ◌<◌, length, IfOk};
+
 use printout::{MOST_TEXT, Written};
+use std::io;
+use std::io::Write;
 use test_input::{pair, wide};
 
-fn put(b: u8) {
-    io::write_all(STDOUT_FILENO, &[b]);
+fn put(out: &mut impl Write, b: u8) -> io::Result<()> {
+    out.write_all(&[b])
 }
 
-fn print_number(n: u64) {
-    put(b' ');
-    io::print_decimal(STDOUT_FILENO, n);
+fn print_number(out: &mut impl Write, n: u64) -> io::Result<()> {
+    write!(out, " {n}")
 }
 
-fn print_whole(card: &[u8]) {
-    let mut out = [0u8; MOST_TEXT];
-    match printout::printout(card, &mut out) {
+fn print_whole(out: &mut impl Write, card: &[u8]) -> io::Result<()> {
+    let mut text = [0u8; MOST_TEXT];
+    match printout::printout(card, &mut text) {
         Written::Bytes(n) => {
             if n <= MOST_TEXT {
-                io::write_all(STDOUT_FILENO, &out[..n]);
+                out.write_all(&text[..n])?;
             }
+            Ok(())
         }
-        Written::Refused(number) => print_number(number as u64),
+        Written::Refused(number) => print_number(out, number as u64),
     }
 }
 
-fn print_short(card: &[u8]) {
-    let mut out = [7u8; 1];
-    match printout::printout(card, &mut out) {
-        Written::Bytes(n) => print_number(n as u64),
+fn print_short(out: &mut impl Write, card: &[u8]) -> io::Result<()> {
+    let mut text = [7u8; 1];
+    match printout::printout(card, &mut text) {
+        Written::Bytes(n) => print_number(out, n as u64)?,
         Written::Refused(number) => {
-            put(b'X');
-            print_number(number as u64);
-            print_number(wide(out[0]) as u64);
+            put(out, b'X')?;
+            print_number(out, number as u64)?;
+            print_number(out, wide(text[0]) as u64)?;
         }
     }
-    put(b'\n');
+    put(out, b'\n')
 }
 
-fn print_card(card: &[u8]) {
-    print_whole(card);
-    print_short(card);
+fn print_card(out: &mut impl Write, card: &[u8]) -> io::Result<()> {
+    print_whole(out, card)?;
+    print_short(out, card)
 }
 
 // Writes what the card at a place gets, and returns the place after it: the end of the file where the card is cut short.
-fn print_record(file: &[u8], at: usize) -> usize
+fn print_record(out: &mut impl Write, file: &[u8], at: usize) -> io::Result<usize>
     requires { at + 2 ≤ length file.now }
-    ensures { (at < result) × (result ≤ length file.now) }
+    ensures { IfOk result (λ end. (at < end) × (end ≤ length file.now)) }
 {
     let from = at + 2;
     let to = from + pair(file, at);
     if file.len() < to {
-        return file.len();
+        return Ok(file.len());
     }
-    print_card(&file[from..to]);
-    to
+    print_card(out, &file[from..to])?;
+    Ok(to)
 }
 
-fn print_cards(file: &[u8]) {
+fn print_cards(out: &mut impl Write, file: &[u8]) -> io::Result<()> {
     let mut at = 0;
     while 2 <= file.len() - at {
-        at = print_record(file, at);
+        at = print_record(out, file, at)?;
     }
+    Ok(())
 }
 
-fn main() {
-    let mut file = io::large_buffer();
-    let n = test_input::read_argument(1, &mut file);
-    print_cards(&file[..n]);
+fn main(rt: HostRuntime) -> io::Result<()> {
+    let mut file = [0u8; test_input::ROOM];
+    let n = test_input::read_argument(&rt, 1, &mut file);
+    print_cards(&mut io::writer(&rt), &file[..n])
 }

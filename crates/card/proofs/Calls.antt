@@ -27,7 +27,7 @@ use Rattle.card.specs.declared.Stretch.{Stretch}
 use Rattle.card.specs.declared.Evaluated.{Evaluated}
 use Rattle.card.proofs.Sound.{sound, unrefused, sound_headed}
 use Rattle.card.proofs.Positions.{refused-short}
-use Rattle.card.proofs.Listed.{refusal_listed}
+use Rattle.card.proofs.Listed.{Listed, refusal_listed}
 use Rattle.card.proofs.read.Reads as read
 use Rattle.card.proofs.locate.Reads as locate
 use Rattle.card.proofs.body.Reads as bytes
@@ -44,7 +44,7 @@ module _ {A : Type 0} (c : List ℕ) (refused : ℕ → A) (shown : A) where
     where
       go : (r : ℕ) → refusal c ≡ r → Among card_numbers (refusal c) × (unless (refusal c ▸ k) refused shown ≡ refused (refusal c))
       go zero e = absurd (n (sound c e))
-      go (suc r) e = rw e (record { stands = rw (e, eqb-suc-zero r) at (refusal_listed c).stands }, refl)
+      go (suc r) e = rw e (record { stands = rw (eqb-suc-zero r) at (subst Listed e (refusal_listed c)).stands }, refl)
 
   -- a call with a cause t of its own, which holds exactly where In does not
   pub gives : (In : Type 0) (m : ℕ) (t : Bool) → (t ≡ false → In) → (t ≡ true → In → ⊥)
@@ -65,7 +65,8 @@ module _ {A : Type 0} (c : List ℕ) (refused : ℕ → A) (shown : A) where
   gives_all = record {
     inside = λ s i. rw (unrefused c s) refl;
     outside = λ s n. absurd (n tt);
-    unsound = λ n. subst (λ (k : ℕ). Among card_numbers (refusal c) × (unless k refused shown ≡ refused (refusal c))) (then_none (refusal c))
+    unsound = λ n. subst (λ (k : ℕ). Among card_numbers (refusal c) × (unless k refused shown ≡ refused (refusal c)))
+        (then_none (refusal c))
         (unsound-gives 0 n);
   }
     where

@@ -33,24 +33,28 @@ largest =
 
 -- the example has 3 polynomials and 3 points
 example_read : reading example ≡ Card.Sound 3 3
-unfolding reading refusal header_refusal contents_refusal bodies_refusal polynomial_refusal coefficients_refusal points_refusal any_below offset
+unfolding reading refusal header_refusal contents_refusal bodies_refusal polynomial_refusal coefficients_refusal points_refusal any_below
+    offset
     two's word
 example_read = refl
 
 -- the body of P3, its degree byte first
 example_body : body example 2 ≡ (1 ∷ 255 ∷ 255 ∷ 255 ∷ 254 ∷ 0 ∷ 0 ∷ 0 ∷ 1 ∷ [])
-unfolding body position_refusal refusal header_refusal contents_refusal bodies_refusal polynomial_refusal coefficients_refusal points_refusal
+unfolding body position_refusal refusal header_refusal contents_refusal bodies_refusal polynomial_refusal coefficients_refusal
+    points_refusal
     any_below offset two's word
 example_body = refl
 
 example_stretch : stretch example 2 ≡ Stretch.At 30 9
-unfolding stretch position_refusal refusal header_refusal contents_refusal bodies_refusal polynomial_refusal coefficients_refusal points_refusal
+unfolding stretch position_refusal refusal header_refusal contents_refusal bodies_refusal polynomial_refusal coefficients_refusal
+    points_refusal
     any_below offset two's word
 example_stretch = refl
 
 -- a position past the last polynomial
 past_the_last : stretch example 3 ≡ Stretch.Refused 14
-unfolding stretch position_refusal refusal header_refusal contents_refusal bodies_refusal polynomial_refusal coefficients_refusal points_refusal
+unfolding stretch position_refusal refusal header_refusal contents_refusal bodies_refusal polynomial_refusal coefficients_refusal
+    points_refusal
     any_below offset two's word
 past_the_last = refl
 
@@ -61,135 +65,159 @@ example_value = refl
 
 -- a byte cut off, and a byte too many
 one-short : reading (take 41 example) ≡ Card.Refused 1
-unfolding reading refusal header_refusal contents_refusal bodies_refusal polynomial_refusal coefficients_refusal points_refusal any_below offset
+unfolding reading refusal header_refusal contents_refusal bodies_refusal polynomial_refusal coefficients_refusal points_refusal any_below
+    offset
     two's word
 one-short = refl
 
 one-long : reading (example ++ (3 ∷ [])) ≡ Card.Refused 1
-unfolding reading refusal header_refusal contents_refusal bodies_refusal polynomial_refusal coefficients_refusal points_refusal any_below offset
+unfolding reading refusal header_refusal contents_refusal bodies_refusal polynomial_refusal coefficients_refusal points_refusal any_below
+    offset
     two's word
 one-long = refl
 
 -- byte 0, then byte 3
 bad_kind : reading (set example 0 0) ≡ Card.Refused 2
-unfolding reading refusal header_refusal contents_refusal bodies_refusal polynomial_refusal coefficients_refusal points_refusal any_below offset
+unfolding reading refusal header_refusal contents_refusal bodies_refusal polynomial_refusal coefficients_refusal points_refusal any_below
+    offset
     two's word
 bad_kind = refl
 
 bad_zero : reading (set example 3 1) ≡ Card.Refused 2
-unfolding reading refusal header_refusal contents_refusal bodies_refusal polynomial_refusal coefficients_refusal points_refusal any_below offset
+unfolding reading refusal header_refusal contents_refusal bodies_refusal polynomial_refusal coefficients_refusal points_refusal any_below
+    offset
     two's word
 bad_zero = refl
 
 -- s, then n
 many-polynomials : reading (set example 1 9) ≡ Card.Refused 3
-unfolding reading refusal header_refusal contents_refusal bodies_refusal polynomial_refusal coefficients_refusal points_refusal any_below offset
+unfolding reading refusal header_refusal contents_refusal bodies_refusal polynomial_refusal coefficients_refusal points_refusal any_below
+    offset
     two's word
 many-polynomials = refl
 
 many-points : reading (set example 2 65) ≡ Card.Refused 3
-unfolding reading refusal header_refusal contents_refusal bodies_refusal polynomial_refusal coefficients_refusal points_refusal any_below offset
+unfolding reading refusal header_refusal contents_refusal bodies_refusal polynomial_refusal coefficients_refusal points_refusal any_below
+    offset
     two's word
 many-points = refl
 
 -- the first offset, and the last
 bad_offset : reading (set example 5 13) ≡ Card.Refused 4
-unfolding reading refusal header_refusal contents_refusal bodies_refusal polynomial_refusal coefficients_refusal points_refusal any_below offset
+unfolding reading refusal header_refusal contents_refusal bodies_refusal polynomial_refusal coefficients_refusal points_refusal any_below
+    offset
     two's word
 bad_offset = refl
 
 bad_last_offset : reading (set example 11 38) ≡ Card.Refused 4
-unfolding reading refusal header_refusal contents_refusal bodies_refusal polynomial_refusal coefficients_refusal points_refusal any_below offset
+unfolding reading refusal header_refusal contents_refusal bodies_refusal polynomial_refusal coefficients_refusal points_refusal any_below
+    offset
     two's word
 bad_last_offset = refl
 
 -- a degree, a coefficient and a top coefficient
 bad_degree : reading (set example 12 7) ≡ Card.Refused 16
-unfolding reading refusal header_refusal contents_refusal bodies_refusal polynomial_refusal coefficients_refusal points_refusal any_below offset
+unfolding reading refusal header_refusal contents_refusal bodies_refusal polynomial_refusal coefficients_refusal points_refusal any_below
+    offset
     two's word
 bad_degree = refl
 
 bad_coefficient : reading (set example 13 1) ≡ Card.Refused 5
-unfolding reading refusal header_refusal contents_refusal bodies_refusal polynomial_refusal coefficients_refusal points_refusal any_below offset
+unfolding reading refusal header_refusal contents_refusal bodies_refusal polynomial_refusal coefficients_refusal points_refusal any_below
+    offset
     two's word
 bad_coefficient = refl
 
 bad_top : reading (set example 20 0) ≡ Card.Refused 17
-unfolding reading refusal header_refusal contents_refusal bodies_refusal polynomial_refusal coefficients_refusal points_refusal any_below offset
+unfolding reading refusal header_refusal contents_refusal bodies_refusal polynomial_refusal coefficients_refusal points_refusal any_below
+    offset
     two's word
 bad_top = refl
 
 -- a point outside, and a point falling
 bad_point : reading (set example 41 101) ≡ Card.Refused 6
-unfolding reading refusal header_refusal contents_refusal bodies_refusal polynomial_refusal coefficients_refusal points_refusal any_below offset
+unfolding reading refusal header_refusal contents_refusal bodies_refusal polynomial_refusal coefficients_refusal points_refusal any_below
+    offset
     two's word
 bad_point = refl
 
 falling-point : reading (set example 41 0) ≡ Card.Refused 6
-unfolding reading refusal header_refusal contents_refusal bodies_refusal polynomial_refusal coefficients_refusal points_refusal any_below offset
+unfolding reading refusal header_refusal contents_refusal bodies_refusal polynomial_refusal coefficients_refusal points_refusal any_below
+    offset
     two's word
 falling-point = refl
 
 -- the order of causes: a card of three bytes is short before its byte 0 is wrong
 short-first : reading (0 ∷ 1 ∷ 0 ∷ []) ≡ Card.Refused 1
-unfolding reading refusal header_refusal contents_refusal bodies_refusal polynomial_refusal coefficients_refusal points_refusal any_below offset
+unfolding reading refusal header_refusal contents_refusal bodies_refusal polynomial_refusal coefficients_refusal points_refusal any_below
+    offset
     two's word
 short-first = refl
 
 -- a body cut short hides a coefficient that was read
 cut_first : reading (take 19 (set example 13 1)) ≡ Card.Refused 1
-unfolding reading refusal header_refusal contents_refusal bodies_refusal polynomial_refusal coefficients_refusal points_refusal any_below offset
+unfolding reading refusal header_refusal contents_refusal bodies_refusal polynomial_refusal coefficients_refusal points_refusal any_below
+    offset
     two's word
 cut_first = refl
 
 -- contents cut short, within an offset and before the last
 cut_contents : reading (take 5 example) ≡ Card.Refused 1
-unfolding reading refusal header_refusal contents_refusal bodies_refusal polynomial_refusal coefficients_refusal points_refusal any_below offset
+unfolding reading refusal header_refusal contents_refusal bodies_refusal polynomial_refusal coefficients_refusal points_refusal any_below
+    offset
     two's word
 cut_contents = refl
 
 cut_last_offset : reading (take 11 example) ≡ Card.Refused 1
-unfolding reading refusal header_refusal contents_refusal bodies_refusal polynomial_refusal coefficients_refusal points_refusal any_below offset
+unfolding reading refusal header_refusal contents_refusal bodies_refusal polynomial_refusal coefficients_refusal points_refusal any_below
+    offset
     two's word
 cut_last_offset = refl
 
 -- a missing degree byte, of the first polynomial and of the second
 no_degree : reading (take 12 example) ≡ Card.Refused 1
-unfolding reading refusal header_refusal contents_refusal bodies_refusal polynomial_refusal coefficients_refusal points_refusal any_below offset
+unfolding reading refusal header_refusal contents_refusal bodies_refusal polynomial_refusal coefficients_refusal points_refusal any_below
+    offset
     two's word
 no_degree = refl
 
 no_second-degree : reading (take 21 example) ≡ Card.Refused 1
-unfolding reading refusal header_refusal contents_refusal bodies_refusal polynomial_refusal coefficients_refusal points_refusal any_below offset
+unfolding reading refusal header_refusal contents_refusal bodies_refusal polynomial_refusal coefficients_refusal points_refusal any_below
+    offset
     two's word
 no_second-degree = refl
 
 -- a degree is tested before the body is seen to be cut short
 degree-first : reading (take 13 (set example 12 7)) ≡ Card.Refused 16
-unfolding reading refusal header_refusal contents_refusal bodies_refusal polynomial_refusal coefficients_refusal points_refusal any_below offset
+unfolding reading refusal header_refusal contents_refusal bodies_refusal polynomial_refusal coefficients_refusal points_refusal any_below
+    offset
     two's word
 degree-first = refl
 
 -- a wrong first offset hides a bad degree, but a bad degree hides the offset after it
 offset-first : reading (set (set example 5 13) 12 7) ≡ Card.Refused 4
-unfolding reading refusal header_refusal contents_refusal bodies_refusal polynomial_refusal coefficients_refusal points_refusal any_below offset
+unfolding reading refusal header_refusal contents_refusal bodies_refusal polynomial_refusal coefficients_refusal points_refusal any_below
+    offset
     two's word
 offset-first = refl
 
 degree-before-offset : reading (set (set example 12 7) 7 0) ≡ Card.Refused 16
-unfolding reading refusal header_refusal contents_refusal bodies_refusal polynomial_refusal coefficients_refusal points_refusal any_below offset
+unfolding reading refusal header_refusal contents_refusal bodies_refusal polynomial_refusal coefficients_refusal points_refusal any_below
+    offset
     two's word
 degree-before-offset = refl
 
 -- a coefficient hides the offset after it
 coefficient-first : reading (set (set example 13 1) 7 0) ≡ Card.Refused 5
-unfolding reading refusal header_refusal contents_refusal bodies_refusal polynomial_refusal coefficients_refusal points_refusal any_below offset
+unfolding reading refusal header_refusal contents_refusal bodies_refusal polynomial_refusal coefficients_refusal points_refusal any_below
+    offset
     two's word
 coefficient-first = refl
 
 -- a byte too many hides a bad point
 length-first : reading (set example 41 101 ++ (3 ∷ [])) ≡ Card.Refused 1
-unfolding reading refusal header_refusal contents_refusal bodies_refusal polynomial_refusal coefficients_refusal points_refusal any_below offset
+unfolding reading refusal header_refusal contents_refusal bodies_refusal polynomial_refusal coefficients_refusal points_refusal any_below
+    offset
     two's word
 length-first = refl
 
@@ -201,7 +229,8 @@ polynomial_edges : (reading (set example 12 255) ≡ Card.Refused 16)
     × (reading (set (set example 13 1) 20 0) ≡ Card.Refused 5)
     × (reading (set (set example 20 0) 7 0) ≡ Card.Refused 17)
     × (reading (set (set example 20 0) 22 1) ≡ Card.Refused 17)
-unfolding reading refusal header_refusal contents_refusal bodies_refusal polynomial_refusal coefficients_refusal points_refusal any_below offset
+unfolding reading refusal header_refusal contents_refusal bodies_refusal polynomial_refusal coefficients_refusal points_refusal any_below
+    offset
     two's word
 polynomial_edges = (refl, refl, refl, refl, refl, refl)
 
@@ -213,7 +242,8 @@ edges_before = (refl, refl, refl, refl)
 
 -- the largest value
 largest_read : reading largest ≡ Card.Sound 1 1
-unfolding reading refusal header_refusal contents_refusal bodies_refusal polynomial_refusal coefficients_refusal points_refusal any_below offset
+unfolding reading refusal header_refusal contents_refusal bodies_refusal polynomial_refusal coefficients_refusal points_refusal any_below
+    offset
     two's word
 largest_read = refl
 

@@ -7,7 +7,8 @@ use Prim.Native.Nat.{ℕ, zero, suc, ◌+◌}
 use lib.Dec.{leb, ltb, eqb}
 use lib.IntN.{nat_abs}
 use lib.ListN.{length}
-use Rattle.refusals.specs.Numbers.{wrong_length, wrong_byte, wrong_count, wrong_offset, wrong_coefficient, wrong_point, wrong_degree, zero_top}
+use Rattle.refusals.specs.Numbers.{wrong_length, wrong_byte, wrong_count, wrong_offset, wrong_coefficient, wrong_point, wrong_degree}
+use Rattle.refusals.specs.Numbers.{zero_top}
 use Rattle.refusals.specs.Numbers.{wrong_terms, past_last, card_numbers, is_among, Among, ◌when◌, ◌▸◌}
 use Rattle.refusals.specs.Limits.{most_polynomials, most_points, most_degree, most_coefficient, most_point}
 use Rattle.refusals.proofs.Causes.{then_holds, only_holds, first_holds}

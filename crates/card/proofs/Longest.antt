@@ -178,7 +178,8 @@ module _ (c d : List ℕ) (m : ℕ) (room : longest_line ≤ m) (long-c : m < le
     same-coefficients h =
         rw (
           same-degree,
-          any_same (λ i. outside most_coefficient (coefficient c at i)) (λ i. outside most_coefficient (coefficient d at i)) (degree d at + 1)
+          any_same (λ i. outside most_coefficient (coefficient c at i)) (λ i. outside most_coefficient (coefficient d at i))
+              (degree d at + 1)
               (λ i l. ap (outside most_coefficient) (same-coefficient i (omega arith))),
           same-coefficient (degree d at) h,
         )

@@ -8,19 +8,20 @@
 --                               polynomials left
 --   body_refusal c at         == the number that refuses it within the polynomial whose body begins at byte `at`, or 0, by its kind
 --   end_refusal c at          == the number that refuses it within what is left, the points, which begin at byte `at`, or 0, by its kind
---   polynomial_refusal c at   == on a card of points on the line, the number that refuses it within the polynomial whose body begins at byte
+-- polynomial_refusal c at   == on a card of points on the line, the number that refuses it within the polynomial whose body begins at byte
 --                               `at`, or 0
 --   coefficients_refusal c at == the number that refuses it for the coefficients of that polynomial, or 0
 --   points_refusal c at       == on such a card, the number that refuses it within the points, which begin at byte `at`, or 0
 --   falling c at k           == point k is below the one before it
---   position_refusal c j      == the number that refuses position j of a polynomial on the card c, or 0: a card is checked before a position
+-- position_refusal c j      == the number that refuses position j of a polynomial on the card c, or 0: a card is checked before a position
 --   kind_refusal c            == the number that refuses the card c, or 0, where one of points on the line is wanted, up to byte 0: under 4
 --                               bytes, 1; byte 0 not 1, 2
 --   place_refusal c j p       == the number that refuses position j of a polynomial on the card c or the point p, or 0: X and Y are to be
 --                               from −100 to 100
 use Rattle.std.specs.Prelude.{Bool, false, cond, not, ◌||◌, ◌&&◌, List, ℕ, zero, suc, ◌+◌, ltb, leb, eqb, nat_abs, length}
 use Rattle.std.specs.Int.Signed.{lt_z}
-use Rattle.refusals.specs.Numbers.{wrong_length, wrong_byte, wrong_count, wrong_offset, wrong_coefficient, wrong_point, wrong_degree, zero_top}
+use Rattle.refusals.specs.Numbers.{wrong_length, wrong_byte, wrong_count, wrong_offset, wrong_coefficient, wrong_point, wrong_degree}
+use Rattle.refusals.specs.Numbers.{zero_top}
 use Rattle.refusals.specs.Numbers.{past_last, ◌when◌, ◌▸◌}
 use Rattle.refusals.specs.Limits.{most_polynomials, most_points, most_degree, most_coefficient, most_point}
 use Rattle.integers.specs.Search.{any_below, outside}

@@ -14,7 +14,8 @@
 --   Finer c                    == each of 5, 16 and 17 refuses the card c exactly for its cause, with 16 and 17 read as 5 its number is
 --                                 document 01's, and 18 is not
 --   PlaneFiner c               == of 18 and 5 each refuses the card c exactly for its cause, and neither 16 nor 17 does
-use Rattle.std.specs.Prelude.{◌≡◌, cond, not, ◌||◌, ◌&&◌, ◌↔◌, ◌⊎◌, ◌≢◌, List, ℕ, zero, suc, ◌+◌, ◌≤◌, ◌<◌, ltb, leb, eqb, pos, nat_abs, length}
+use Rattle.std.specs.Prelude.{◌≡◌, cond, not, ◌||◌, ◌&&◌, ◌↔◌, ◌⊎◌, ◌≢◌, List, ℕ, zero, suc, ◌+◌, ◌≤◌, ◌<◌, ltb, leb, eqb, pos, nat_abs}
+use Rattle.std.specs.Prelude.{length}
 use Rattle.refusals.specs.Numbers.{◌when◌, ◌▸◌}
 use Rattle.layout.specs.Format.{byte, polynomials, point_count, offset, bodies_at, degree, size, coefficient, point}
 use Rattle.layout.specs.Body.{Whole, Small}

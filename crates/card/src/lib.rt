@@ -1,5 +1,7 @@
 // Reads a card: the bytes that hold up to 8 polynomials and up to 64 points, on the line (document 01, "The card") or in the plane (document 02,
 // wish 6).
+#![tactic(auto)]
+
 mod reader;
 
 ghost use Rattle.std.specs.Prelude.{◌≡◌, ◌+◌, ◌<◌};
@@ -12,21 +14,21 @@ ghost use Rattle.card.specs.Answers.{reading, stretch, body, start, value_answer
 use refusals::NONE;
 
 // What a card holds: s polynomials and n points, or the number that refuses it.
-#[derive(Drop)]
+#[derive(Clone, Copy)]
 pub enum Card {
     Sound { s: usize, n: usize },
     Refused(u16),
 }
 
 // Where the body of a polynomial stands on a card, or the number that refuses the card or the position.
-#[derive(Drop)]
+#[derive(Clone, Copy)]
 pub enum Stretch {
     At { start: usize, len: usize },
     Refused(u16),
 }
 
 // The value of a polynomial, or the number that refuses the card or the position.
-#[derive(Drop)]
+#[derive(Clone, Copy)]
 pub enum Evaluated {
     Value(i64),
     Refused(u16),

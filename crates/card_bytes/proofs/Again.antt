@@ -11,7 +11,8 @@ use lib.ListN.{length, get_or, drop, length-append, length-map, length-drop}
 use lib.Seq.{drop-cons, take_at, drop_at, get_or-drop, ext_get_or}
 use Rattle.signs.specs.Lists.{Below, up_to}
 use Rattle.signs.proofs.Positions.{below_at}
-use Rattle.layout.specs.Format.{byte, two's, polynomials, point_count, offset, bodies_at, degree, size, word, coefficient, points_at, point_of}
+use Rattle.layout.specs.Format.{byte, two's, polynomials, point_count, offset, bodies_at, degree, size, word, coefficient, points_at}
+use Rattle.layout.specs.Format.{point_of}
 use Rattle.layout.specs.Body.{Body}
 use Rattle.layout.proofs.Contents.{up_to-long, map-up_to-at, points-long, map-point-at}
 use Rattle.integers.specs.Search.{any_below, outside}
@@ -59,7 +60,11 @@ polynomials_none d C zero long h = refl
 polynomials_none d C (suc n) long h =
     let K : ℕ → List ℤ = λ i. C (suc i) in
     rw (map_first d n, flat_map_first C n)
-    (rw (take_at (C 0) (flat_map K (up_to n)) (d 0 + 1) (long 0), drop_at (C 0) (flat_map K (up_to n)) (d 0 + 1) (long 0), h 0 (omega arith))
+    (rw (
+      take_at (C 0) (flat_map K (up_to n)) (d 0 + 1) (long 0),
+      drop_at (C 0) (flat_map K (up_to n)) (d 0 + 1) (long 0),
+      h 0 (omega arith),
+    )
     (polynomials_none (λ i. d (suc i)) K n (λ i. long (suc i)) (λ i l. h (suc i) (omega arith))))
 
 module _ {A : Type 0} (f : A → Bool) where

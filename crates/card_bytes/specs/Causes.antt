@@ -32,7 +32,8 @@ wrong_points (x ∷ l) = outside most_point x || (below x l || wrong_points l)
 -- ---- the polynomials
 
 unfoldable pub polynomial_cause : ℕ → List ℤ → ℕ
-polynomial_cause d l = wrong_coefficient when some (outside most_coefficient) l ▸ zero_top when (ltb 0 d && eqb (nat_abs (get_or l d (pos 0))) 0)
+polynomial_cause d l = wrong_coefficient when some (outside most_coefficient) l ▸ zero_top when
+    (ltb 0 d && eqb (nat_abs (get_or l d (pos 0))) 0)
 
 unfoldable pub polynomials_cause : List ℕ → List ℤ → ℕ
 polynomials_cause [] cs = 0

@@ -1,4 +1,6 @@
 // The checks before a card is written (document 02, wish 2), in the wish's order: `refusal` answers the number of the first cause, or 0.
+#![tactic(auto)]
+
 ghost use Rattle.std.specs.Prelude.{◌≡◌, false, ◌||◌, ◌+◌, ◌≤◌, ◌<◌, ltb, pos, length, get_or, drop};
 ghost use Rattle.refusals.specs.Numbers.{wrong_point, ◌when◌, ◌▸◌};
 ghost use Rattle.refusals.specs.Limits.{most_polynomials, most_degree, most_coefficient, most_point};

@@ -7,7 +7,7 @@ use Prim.Native.Nat.{ℕ, ◌+◌, ◌*◌, ◌<◌, ◌≤◌}
 use native.Mathlib.Omega.{arith}
 use borrow.Author.Tests.{ltb-false, lt-ltb, le-ltb}
 use contract.Lifetimes.{Lfts}
-use denote.Ref.{Bor}
+use denote.Ref.{MutBor}
 use lib.Dec.{ltb}
 use lib.ListN.{length, get_or, replicate, length-replicate, get_or-replicate}
 use Rattle.refusals.specs.Numbers.{◌▸◌}
@@ -105,6 +105,6 @@ drawing-gives seed s n d out =
           (placed-whole c out k e (omega (arith, length-drawn seed s n d e)), drawn_is seed s n d e);
     }
 
-pub draw_gives : (κs : Lfts 1) (seed s n d : ℕ) (out out' : Bor (List ℕ)) (o : Written)
+pub draw_gives : (κs : Lfts 1) (seed s n d : ℕ) (out out' : MutBor (List ℕ)) (o : Written)
     → draw.Learnt κs (seed, (s, (n, (d, (out, tt))))) o (seed, (s, (n, (d, (out', tt))))) → DrawGives seed s n d out.now o out'.now
 draw_gives κs seed s n d out out' o (e, f) = rw (e, f) (drawing-gives seed s n d out.now)

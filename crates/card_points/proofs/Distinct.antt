@@ -115,7 +115,8 @@ module _ (c : List ℕ) (S : Sound c) where
   places_to_lem (suc k) h = go (bool_cases (repeats c k)) (places_to_lem k (omega arith))
     where
       go : (repeats c k ≡ true) ⊎ (repeats c k ≡ false) → map (card_point c) (places_to c k) ≡ distinct same_point (before k)
-          → map (card_point c) (places_to c k ++ cond (repeats c k) [] (k ∷ [])) ≡ distinct same_point (map (card_point c) (up_to k ++ (k ∷ [])))
+          → map (card_point c) (places_to c k ++ cond (repeats c k) [] (k ∷ [])) ≡ distinct same_point
+          (map (card_point c) (up_to k ++ (k ∷ [])))
       go (inl t) ih =
           rw (t, append-nil, map-append (card_point c) (up_to k) (k ∷ []))
           (ih ∙ sym (distinct-again same_point point_equality (card_point c k) (before k) (stands k t)))

@@ -2,6 +2,8 @@
 // fall, so that equal ones stand together, and one look at the point before tells a new one.
 //
 // The functions have a `requires`: they are for the crates above, whose calls show it.
+#![tactic(auto)]
+
 ghost use Rattle.std.specs.Prelude.{◌≡◌, cond, ◌<◌};
 ghost use Rattle.layout.specs.Format.{point_count, points_at};
 ghost use Rattle.card.specs.Sound.{Sound};
@@ -11,7 +13,7 @@ use plane::is_plane;
 use refusals::MOST_POINTS;
 
 // Places of points on a card, from 0: the first n of `at`, rising.
-#[derive(Drop)]
+#[derive(Clone, Copy)]
 pub struct Places {
     pub at: [u8; MOST_POINTS],
     pub n: usize,

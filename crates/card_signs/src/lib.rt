@@ -1,6 +1,8 @@
 // The signs of a card's polynomials at its points, on a card of either kind.
 //
 // The functions have a `requires`: they are for the crates above, whose calls show it.
+#![tactic(auto)]
+
 ghost use Rattle.std.specs.Prelude.{◌≡◌, ◌<◌};
 ghost use Rattle.signs.specs.Signs.{sign_digit};
 ghost use Rattle.layout.specs.Format.{polynomials, point_count, offset, points_at};

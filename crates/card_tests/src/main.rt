@@ -3,43 +3,46 @@
 //
 // The file is one record after the other: the card's length and the number of products, two bytes each, then the card, then the products, two
 // bytes each. Numbers have the high byte first.
-ghost use Rattle.std.specs.Prelude.{◌+◌, ◌≤◌, ◌<◌, length};
+#![tactic(auto)]
+
+ghost use Rattle.std.specs.Prelude.{◌+◌, ◌≤◌, ◌<◌, length, IfOk};
 
 use card::{Card, Evaluated, Stretch};
-use libc::STDOUT_FILENO;
 use query::Queried;
 use sign_counts::SignCounts;
 use signs::Product;
+use std::io;
+use std::io::Write;
 use test_input::{pair, wide};
 
-fn put(b: u8) {
-    io::write_all(STDOUT_FILENO, &[b]);
+fn put(out: &mut impl Write, b: u8) -> io::Result<()> {
+    out.write_all(&[b])
 }
 
-fn print_number(n: u64) {
-    put(b' ');
-    io::print_decimal(STDOUT_FILENO, n);
+fn print_number(out: &mut impl Write, n: u64) -> io::Result<()> {
+    write!(out, " {n}")
 }
 
-fn print_signed(v: i64) {
-    put(b' ');
+fn print_signed(out: &mut impl Write, v: i64) -> io::Result<()> {
+    put(out, b' ')?;
     if v < 0 {
-        put(b'-');
+        put(out, b'-')?;
     }
-    io::print_decimal(STDOUT_FILENO, integers::magnitude(v));
+    let size = integers::magnitude(v);
+    write!(out, "{size}")
 }
 
 // R and the number that refuses.
-fn print_refused(number: u16) {
-    put(b' ');
-    put(b'R');
-    print_number(number as u64);
+fn print_refused(out: &mut impl Write, number: u16) -> io::Result<()> {
+    put(out, b' ')?;
+    put(out, b'R')?;
+    print_number(out, number as u64)
 }
 
-fn print_value(answer: Evaluated) {
+fn print_value(out: &mut impl Write, answer: Evaluated) -> io::Result<()> {
     match answer {
-        Evaluated::Value(v) => print_signed(v),
-        Evaluated::Refused(number) => print_refused(number),
+        Evaluated::Value(v) => print_signed(out, v),
+        Evaluated::Refused(number) => print_refused(out, number),
     }
 }
 
@@ -55,125 +58,127 @@ fn weight(bytes: &[u8]) -> usize {
 }
 
 // Where the body stands, or the number that refuses the card or the position.
-fn print_place(card: &[u8], j: usize) {
+fn print_place(out: &mut impl Write, card: &[u8], j: usize) -> io::Result<()> {
     match card::locate(card, j) {
         Stretch::At { start, len } => {
-            put(b'A');
-            print_number(start as u64);
-            print_number(len as u64);
+            put(out, b'A')?;
+            print_number(out, start as u64)?;
+            print_number(out, len as u64)
         }
         Stretch::Refused(number) => {
-            put(b'N');
-            print_number(number as u64);
+            put(out, b'N')?;
+            print_number(out, number as u64)
         }
     }
 }
 
-fn print_body(card: &[u8], j: usize) {
+fn print_body(out: &mut impl Write, card: &[u8], j: usize) -> io::Result<()> {
     let bytes = card::body(card, j);
-    print_number(bytes.len() as u64);
-    print_number(weight(bytes) as u64);
+    print_number(out, bytes.len() as u64)?;
+    print_number(out, weight(bytes) as u64)
 }
 
-fn print_position(card: &[u8], j: usize) {
-    print_place(card, j);
-    print_body(card, j);
-    print_value(card::value(card, j, -128));
-    print_value(card::value(card, j, -1));
-    print_value(card::value(card, j, 100));
-    print_value(card::value_at(card, j, 100, 100));
-    print_value(card::value_at(card, j, 7, -3));
-    print_value(card::value_at(card, j, 101, -100));
-    print_value(card::value_at(card, j, -100, -101));
-    put(b'\n');
+fn print_position(out: &mut impl Write, card: &[u8], j: usize) -> io::Result<()> {
+    print_place(out, card, j)?;
+    print_body(out, card, j)?;
+    print_value(out, card::value(card, j, -128))?;
+    print_value(out, card::value(card, j, -1))?;
+    print_value(out, card::value(card, j, 100))?;
+    print_value(out, card::value_at(card, j, 100, 100))?;
+    print_value(out, card::value_at(card, j, 7, -3))?;
+    print_value(out, card::value_at(card, j, 101, -100))?;
+    print_value(out, card::value_at(card, j, -100, -101))?;
+    put(out, b'\n')
 }
 
-fn print_positions(card: &[u8], s: usize) {
+fn print_positions(out: &mut impl Write, card: &[u8], s: usize) -> io::Result<()> {
     let mut j = 0;
     while j < s {
-        print_position(card, j);
+        print_position(out, card, j)?;
         j += 1;
     }
-    print_position(card, s);
+    print_position(out, card, s)
 }
 
-fn print_card(card: &[u8]) {
+fn print_card(out: &mut impl Write, card: &[u8]) -> io::Result<()> {
     match card::read(card) {
         Card::Sound { s, n } => {
-            put(b'S');
-            print_number(s as u64);
-            print_number(n as u64);
-            put(b'\n');
-            print_positions(card, s);
+            put(out, b'S')?;
+            print_number(out, s as u64)?;
+            print_number(out, n as u64)?;
+            put(out, b'\n')?;
+            print_positions(out, card, s)
         }
         Card::Refused(number) => {
-            put(b'R');
-            print_number(number as u64);
-            put(b'\n');
-            print_position(card, 0);
+            put(out, b'R')?;
+            print_number(out, number as u64)?;
+            put(out, b'\n')?;
+            print_position(out, card, 0)
         }
     }
 }
 
 // The three counts of a query, and the panel number.
-fn print_counts(counts: SignCounts) {
-    print_number(counts.positive as u64);
-    print_number(counts.negative as u64);
-    print_number(counts.zero as u64);
-    print_signed(sign_counts::panel_number(counts));
+fn print_counts(out: &mut impl Write, counts: SignCounts) -> io::Result<()> {
+    print_number(out, counts.positive as u64)?;
+    print_number(out, counts.negative as u64)?;
+    print_number(out, counts.zero as u64)?;
+    print_signed(out, sign_counts::panel_number(counts))
 }
 
 // The answer of a query, or R and the number that refuses it.
-fn print_answer(answer: Queried) {
+fn print_answer(out: &mut impl Write, answer: Queried) -> io::Result<()> {
     match answer {
-        Queried::Counts(counts) => print_counts(counts),
-        Queried::Refused(number) => print_refused(number),
+        Queried::Counts(counts) => print_counts(out, counts),
+        Queried::Refused(number) => print_refused(out, number),
     }
 }
 
 // The product, and its query on the card in one call and on the opened card.
-fn print_query(card: &[u8], a: u16) {
-    put(b'Q');
-    print_number(a as u64);
-    print_answer(query::query(card, Product(a)));
-    print_answer(query::ask(query::open(card), Product(a)));
-    put(b'\n');
+fn print_query(out: &mut impl Write, card: &[u8], a: u16) -> io::Result<()> {
+    put(out, b'Q')?;
+    print_number(out, a as u64)?;
+    print_answer(out, query::query(card, Product(a)))?;
+    print_answer(out, query::ask(query::open(card), Product(a)))?;
+    put(out, b'\n')
 }
 
-fn print_queries(card: &[u8], products: &[u8]) {
+fn print_queries(out: &mut impl Write, card: &[u8], products: &[u8]) -> io::Result<()> {
     let mut at = 0;
     while 2 <= products.len() - at {
-        print_query(card, pair(products, at) as u16);
+        print_query(out, card, pair(products, at) as u16)?;
         at += 2;
     }
+    Ok(())
 }
 
 // Writes what the calls answer of the record at a place, and returns the place after it: the end of the file where the record is cut short.
-fn print_record(file: &[u8], at: usize) -> usize
+fn print_record(out: &mut impl Write, file: &[u8], at: usize) -> io::Result<usize>
     requires { at + 4 ≤ length file.now }
-    ensures { (at < result) × (result ≤ length file.now) }
+    ensures { IfOk result (λ end. (at < end) × (end ≤ length file.now)) }
 {
     let from = at + 4;
     let to = from + pair(file, at);
     let end = to + 2 * pair(file, at + 2);
     if file.len() < end {
-        return file.len();
+        return Ok(file.len());
     }
     let card = &file[from..to];
-    print_card(card);
-    print_queries(card, &file[to..end]);
-    end
+    print_card(out, card)?;
+    print_queries(out, card, &file[to..end])?;
+    Ok(end)
 }
 
-fn print_cards(file: &[u8]) {
+fn print_cards(out: &mut impl Write, file: &[u8]) -> io::Result<()> {
     let mut at = 0;
     while 4 <= file.len() - at {
-        at = print_record(file, at);
+        at = print_record(out, file, at)?;
     }
+    Ok(())
 }
 
-fn main() {
-    let mut file = io::large_buffer();
-    let n = test_input::read_argument(1, &mut file);
-    print_cards(&file[..n]);
+fn main(rt: HostRuntime) -> io::Result<()> {
+    let mut file = [0u8; test_input::ROOM];
+    let n = test_input::read_argument(&rt, 1, &mut file);
+    print_cards(&mut io::writer(&rt), &file[..n])
 }

@@ -6,7 +6,7 @@ use Prim.Native.Nat.{ℕ, zero, suc, ◌<◌, ◌≤◌}
 use native.Mathlib.Omega.{arith}
 use borrow.Author.Tests.{lt-ltb, le-ltb}
 use contract.Lifetimes.{Lfts}
-use denote.Ref.{Bor}
+use denote.Ref.{Bor, MutBor}
 use lib.IntN.{ℤ}
 use lib.ListN.{length, drop}
 use lib.Seq.{take-append_seam, drop-append_seam}
@@ -56,7 +56,7 @@ writing-gives ds cs ps out =
       written = λ w h. placed-whole c out (write_cause ds cs ps) ((refuses ds cs ps).is_0.1 w) h;
     }
 
-module _ (κs : Lfts 4) (ds : Bor (List ℕ)) (cs ps : Bor (List ℤ)) (out out' : Bor (List ℕ)) where
+module _ (κs : Lfts 4) (ds : Bor (List ℕ)) (cs ps : Bor (List ℤ)) (out out' : MutBor (List ℕ)) where
   pub write_gives : (o : Written) → write.Learnt κs (ds, (cs, (ps, (out, tt)))) o (ds, (cs, (ps, (out', tt))))
       → WriteGives ds.now cs.now ps.now out.now o out'.now
   write_gives o (e, f) = rw (e, f) (writing-gives ds.now cs.now ps.now out.now)

@@ -6,7 +6,7 @@ use mathlib.Core.List.{List, ◌++◌}
 use Prim.Native.Nat.{ℕ, zero, suc, ◌<◌, ◌≤◌}
 use native.Mathlib.Omega.{arith}
 use contract.Lifetimes.{Lfts}
-use denote.Ref.{Bor}
+use denote.Ref.{Bor, MutBor}
 use lib.IntN.{ℤ}
 use lib.ListN.{length, take, drop}
 use lib.Seq.{take-append_seam}
@@ -38,7 +38,7 @@ use Rattle.card_writer.proofs.write.Reads as write
 
 -- ---- written, then read
 
-module _ (κs : Lfts 4) (ds : Bor (List ℕ)) (cs ps : Bor (List ℤ)) (out out' : Bor (List ℕ)) (n : ℕ)
+module _ (κs : Lfts 4) (ds : Bor (List ℕ)) (cs ps : Bor (List ℤ)) (out out' : MutBor (List ℕ)) (n : ℕ)
     (wrote : write.Learnt κs (ds, (cs, (ps, (out, tt)))) (Length n) (ds, (cs, (ps, (out', tt)))))
     (κ : Lfts 1) (card : Bor (List ℕ)) (lent : card.now ≡ take n out'.now) where
   -- the card that is lent to the reader is the one that was written
@@ -72,7 +72,7 @@ module _ (κs : Lfts 4) (ds : Bor (List ℕ)) (cs ps : Bor (List ℤ)) (out out'
 
 module _ (κ : Lfts 1) (card : Bor (List ℕ)) (s n : ℕ) (read-it : read.Learnt κ (card, tt) (of-card.Sound s n) (card, tt))
     (bytes : Below 256 card.now) (line : byte card.now 0 ≡ 1)
-    (κs : Lfts 4) (ds : Bor (List ℕ)) (cs ps : Bor (List ℤ)) (out out' : Bor (List ℕ))
+    (κs : Lfts 4) (ds : Bor (List ℕ)) (cs ps : Bor (List ℤ)) (out out' : MutBor (List ℕ))
     (degrees : ds.now ≡ degrees_of card.now) (coefficients : cs.now ≡ coefficients_of card.now)
     (points : ps.now ≡ points_of card.now) where
   -- "each accepted card is what the writer makes of them", where the buffer has room for it

@@ -1,4 +1,6 @@
 // Writes a card from degrees, coefficients and points (document 02, wish 2). The checks are in `card_checks`, the bytes in `bytes`.
+#![tactic(auto)]
+
 mod bytes;
 
 ghost use Rattle.std.specs.Prelude.{◌≡◌};
@@ -7,7 +9,7 @@ ghost use Rattle.card_writer.specs.Writing.{writing};
 use refusals::{NONE, TOO_SHORT};
 
 // What a call answers: how many bytes the card that it wrote has, or the number of the cause why it wrote none.
-#[derive(Drop)]
+#[derive(Clone, Copy)]
 pub enum Written {
     Length(usize),
     Refused(u16),

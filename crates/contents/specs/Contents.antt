@@ -7,7 +7,7 @@
 --   pattern_to v s      == the pattern number of such a point: of the first s polynomials, the digit of their sign
 --   values_at K x       == the values of the polynomials of the contents K at the point x
 --   product_value K α x == the value of the product α of all polynomials of K at the point x
---   query_in K α        == the Tarski query of the product α: the sum over the points of the sign of that value, a point counted as often as
+-- query_in K α        == the Tarski query of the product α: the sum over the points of the sign of that value, a point counted as often as
 --                         it stands in K
 --   pattern_at K x      == the pattern number of the point x
 --   patterns_in K       == the patterns of all points, in the points' order

@@ -6,7 +6,7 @@ use mathlib.Core.List.{List, ◌++◌}
 use Prim.Native.Nat.{ℕ, ◌≤◌}
 use lib.IntN.{ℤ}
 use contract.Lifetimes.{Lfts}
-use denote.Ref.{Bor}
+use denote.Ref.{MutBor}
 use Rattle.refusals.specs.Limits.{most_polynomials}
 use Rattle.run_record.specs.declared.Run.{Run}
 use Rattle.determination.specs.declared.Answered.{Answered}
@@ -53,11 +53,11 @@ pub record Through (c : Run) (z : ℤ) (c' : Run) (x : Step) : Type 2 where
 pub record OnLent (c : Run) (z : ℤ) (c' : Run) (x : Step) : Type 2 where
   pub world : World
   pub lifetimes : Lfts 1
-  pub before : Bor Run
-  pub after : Bor Run
+  pub before : MutBor Run
+  pub after : MutBor Run
   pub result : code_step.Step
   pub kept : Held world
-      ((lent.clauses world.resources world.alloc world.atoms world.memory world.routines lifetimes (before, (z, tt))).ensures
+      ((lent.clauses world.𝓛 world.memory world.routines lifetimes (before, (z, tt))).ensures
       tt result (after, (z, tt)))
   pub was : before.now ≡ c
   pub left : after.now ≡ c'
@@ -100,10 +100,10 @@ keeps_fetches c p x u = u.gave ∙ u.kept
 -- the two slices lent, as they were and as they are left
 pub record Copies (c : Run) (a b : List ℕ) (x : Copy) : Type 2 where
   pub lifetimes : Lfts 2
-  pub patterns : Bor (List ℕ)
-  pub counts : Bor (List ℕ)
-  pub patterns' : Bor (List ℕ)
-  pub counts' : Bor (List ℕ)
+  pub patterns : MutBor (List ℕ)
+  pub counts : MutBor (List ℕ)
+  pub patterns' : MutBor (List ℕ)
+  pub counts' : MutBor (List ℕ)
   pub result : code.Copied
   pub kept : copy.Learnt lifetimes (c, (patterns, (counts, tt))) result (c, (patterns', (counts', tt)))
   pub lent_patterns : patterns.now ≡ a

@@ -1,6 +1,6 @@
 -- The lengths of a record's arrays, from what owning it tells.
-use mathlib.Core.Path.{◌≡◌, sym, ◌∙◌}
-use lib.ListN.{length, length-map}
+use mathlib.Core.Path.{◌≡◌}
+use lib.ListN.{length}
 use Rattle.run_record.specs.declared.Run.{Run}
 use Rattle.lent_walks.proofs.Thin.{Data, Good, struct}
 use Rattle.run_record.specs.contracts.Run as run-type
@@ -18,8 +18,8 @@ pub record Lengths (r : Run) : Type 0 where
 pub lengths : (r : Run) → Good RunD r → Lengths r
 lengths r g =
     record {
-      patterns = sym (length-map r.patterns (λ v. v)) ∙ g.1.1.1.1.1.1.1.1.0.1.0.1;
-      counts = sym (length-map r.counts (λ v. v)) ∙ g.1.1.1.1.1.1.1.1.1.0.1.0.1;
-      products = sym (length-map r.products (λ v. v)) ∙ g.1.1.1.1.1.1.1.1.1.1.0.1.0.1;
-      answers = sym (length-map r.answers (λ v. v)) ∙ g.1.1.1.1.1.1.1.1.1.1.1.1.0.1.0.1;
+      patterns = g.1.1.1.1.1.1.1.1.0.1.0.1;
+      counts = g.1.1.1.1.1.1.1.1.1.0.1.0.1;
+      products = g.1.1.1.1.1.1.1.1.1.1.0.1.0.1;
+      answers = g.1.1.1.1.1.1.1.1.1.1.1.1.0.1.0.1;
     }

@@ -1,5 +1,3 @@
-pub mod Fields
-pub mod Lent
 pub mod Lengths
 pub mod Serves
 pub mod Worlds

@@ -6,6 +6,8 @@
 // - Rows are served where the phase is DONE and there are at most 64, else 7: the patterns and counts as they stand, whatever they are.
 // - `asked` gives the number as it stands.
 // A call that gives 7 leaves the record as it was.
+#![tactic(auto)]
+
 ghost use Rattle.std.specs.Prelude.{◌≡◌, List, ℕ, ℤ};
 ghost use Rattle.runs.specs.Run.{fetch_of, copy_of};
 ghost use Rattle.run_record.specs.Record.{is_done, run_of, state_of, step_of, AnswerGives, StartGives, StartIn};
@@ -19,28 +21,28 @@ use run_record::{CLOSED, DONE, Head, RUNNING, Run, Step, Turn, answer_parts, fir
 use signs::{Pattern, Product};
 
 // A row: a pattern and how many points have it.
-#[derive(Drop)]
+#[derive(Clone, Copy)]
 pub struct Row {
     pub pattern: Pattern,
     pub count: u16,
 }
 
 // What a row fetch gives.
-#[derive(Drop)]
+#[derive(Clone, Copy)]
 pub enum Fetched {
     Row(Row),
     Refused(u16),
 }
 
 // What a copy of all rows gives: how many they are, or a refusal number.
-#[derive(Drop)]
+#[derive(Clone, Copy)]
 pub enum Copied {
     Rows(usize),
     Refused(u16),
 }
 
 // The record after a call, and the step.
-#[derive(Drop)]
+#[derive(Clone, Copy)]
 pub struct Answered {
     pub run: Run,
     pub step: Step,
@@ -260,7 +262,7 @@ pub fn asked(run: Run) -> usize
 // Copies all rows of a run that is done to the two slices. Returns how many they are: 7 before done and after closed, 15 where a slice is
 // shorter. A refusal leaves both slices as they were, and what lies past the rows is kept.
 pub fn copy_rows(run: Run, patterns: &mut [u16], counts: &mut [u16]) -> Copied
-    ensures* { λ r. ⌜ record { result = copied_of r; patterns_left = patterns.new; counts_left = counts.new } ≡ copy_of (state_of run) patterns.old counts.old ⌝ }
+    ensures { record { result = copied_of result; patterns_left = patterns.new; counts_left = counts.new } ≡ copy_of (state_of run) patterns.old counts.old }
 {
     if !done(run) {
         return Copied::Refused(LATE);

@@ -2,12 +2,16 @@
 //
 // A refusal, or an argument that is no number, is said on standard error in one line, and nothing goes to standard output. The card is that of
 // `card_draw`: this program only reads its arguments and writes.
+#![tactic(auto)]
+
 mod numeral;
 
 use card_writer::Written;
-use libc::{STDERR_FILENO, STDOUT_FILENO};
 use numeral::{Numeral, read_numeral};
 use refusals::LONGEST_LINE_CARD;
+use std::env::{Env, FillError};
+use std::io;
+use std::io::Write;
 
 // How many arguments there are, the program's own name among them.
 const ARGUMENTS: usize = 5;
@@ -15,59 +19,58 @@ const ARGUMENTS: usize = 5;
 // The room for an argument. One that is longer is read as none.
 const MOST_TEXT: usize = 20;
 
-// The number that argument i is.
-fn argument(i: usize) -> Numeral {
+// Whether there is an argument i.
+fn is_given(rt: &impl Env, i: usize) -> bool {
     let mut text = [0u8; MOST_TEXT];
-    let n = os::arg(i, &mut text);
-    read_numeral(&text[..n])
+    !matches!(rt.arg(i, &mut text), Err(FillError::NotPresent))
 }
 
-fn say_usage() {
-    io::write_all(
-        STDERR_FILENO,
-        b"usage: drawcard SEED S N D, each a number in decimal from 0 to 4294967295\n",
-    );
+// The number that argument i is.
+fn argument(rt: &impl Env, i: usize) -> Numeral {
+    let mut text = [0u8; MOST_TEXT];
+    match rt.arg(i, &mut text) {
+        Ok(n) => read_numeral(&text[..n]),
+        Err(_) => Numeral::Wrong,
+    }
 }
 
-fn say_refused(number: u16) {
-    io::write_all(STDERR_FILENO, b"drawcard: refused by ");
-    io::print_decimal(STDERR_FILENO, number as u64);
-    io::write_all(STDERR_FILENO, b"\n");
+fn say_usage(rt: &impl Eprint) -> io::Result<()> {
+    eprintln!(rt; "usage: drawcard SEED S N D, each a number in decimal from 0 to 4294967295")
+}
+
+fn say_refused(rt: &impl Eprint, number: u16) -> io::Result<()> {
+    eprintln!(rt; "drawcard: refused by {number}")
 }
 
 // Writes the card, or says why there is none.
-fn write_card(seed: u32, s: u32, n: u32, d: u32) {
+fn write_card(rt: &(impl Print + Eprint), seed: u32, s: u32, n: u32, d: u32) -> io::Result<()> {
     let mut card = [0u8; LONGEST_LINE_CARD];
     match card_draw::draw(seed, s as usize, n as usize, d as usize, &mut card) {
         Written::Length(length) => {
             if length <= LONGEST_LINE_CARD {
-                io::write_all(STDOUT_FILENO, &card[..length]);
+                io::writer(rt).write_all(&card[..length])?;
             }
+            Ok(())
         }
-        Written::Refused(number) => say_refused(number),
+        Written::Refused(number) => say_refused(rt, number),
     }
 }
 
-fn main() {
-    if os::arg_count() != ARGUMENTS {
-        say_usage();
-        return;
+fn main(rt: HostRuntime) -> io::Result<()> {
+    if is_given(&rt, ARGUMENTS) {
+        return say_usage(&rt);
     }
-    let Numeral::Number(seed) = argument(1) else {
-        say_usage();
-        return;
+    let Numeral::Number(seed) = argument(&rt, 1) else {
+        return say_usage(&rt);
     };
-    let Numeral::Number(s) = argument(2) else {
-        say_usage();
-        return;
+    let Numeral::Number(s) = argument(&rt, 2) else {
+        return say_usage(&rt);
     };
-    let Numeral::Number(n) = argument(3) else {
-        say_usage();
-        return;
+    let Numeral::Number(n) = argument(&rt, 3) else {
+        return say_usage(&rt);
     };
-    let Numeral::Number(d) = argument(4) else {
-        say_usage();
-        return;
+    let Numeral::Number(d) = argument(&rt, 4) else {
+        return say_usage(&rt);
     };
-    write_card(seed, s, n, d);
+    write_card(&rt, seed, s, n, d)
 }

@@ -1,5 +1,6 @@
 -- Laws of draws: how many they are, where they lie, and what a loop that stores them keeps.
-use Rattle.std.proofs.Common.{◌≡◌, ℕ, zero, suc, ◌+◌, ◌-◌, ◌/◌, ◌<◌, ◌≤◌, List, length, get_or, set, ℤ, pos, ◌-ℤ◌, nat_abs, refl, ap, ◌∙◌, mod-lt, suc-add, arith, length-set}
+use Rattle.std.proofs.Common.{◌≡◌, ℕ, zero, suc, ◌+◌, ◌-◌, ◌/◌, ◌<◌, ◌≤◌, List, length, get_or, set, ℤ, pos, ◌-ℤ◌, nat_abs, refl, ap, ◌∙◌}
+use Rattle.std.proofs.Common.{mod-lt, suc-add, arith, length-set}
 use lib.Seq.{sets}
 use Rattle.integers.proofs.Parts.{int, dif, parts, side}
 use Rattle.generator.specs.Generator.{step, after, below, draws}

@@ -1,6 +1,8 @@
 // The generator of drawn cards (document 02, wish 2): state = 1664525 × state + 1013904223, modulo 2^32, stepping before each use.
 //
 // `draw_numbers` has a `requires`: it is for the crates above, whose calls show it.
+#![tactic(auto)]
+
 ghost use Rattle.std.specs.Prelude.{◌≡◌, ◌+◌, ◌*◌, ◌%◌, ◌^◌, ◌<◌, ◌≤◌, length};
 ghost use Rattle.std.proofs.lemmas.List.Edits.{sets};
 ghost use Rattle.generator.specs.Generator.{step, after, below, draws};

@@ -1,12 +1,13 @@
 // Signed numbers. Of 64 bits: magnitude, exact halving and the symmetric range test, each defined for every argument. Of 16 bits: sums, differences,
 // a sign times a number and the change to 64 bits and back, for the crates above this one, whose calls show what they require.
+#![tactic(auto)]
 
 ghost use Rattle.std.specs.Prelude.{◌≡◌, ◌+◌, ◌≤◌, nat_abs, ◌+ℤ◌, ◌-ℤ◌, ◌*ℤ◌};
 ghost use Rattle.integers.specs.Half.{half_of};
 ghost use Rattle.integers.specs.Range.{is_within};
 
 // Half of an integer that is even, or that it is odd.
-#[derive(Drop)]
+#[derive(Clone, Copy)]
 pub enum Half {
     Whole(i64),
     Odd,

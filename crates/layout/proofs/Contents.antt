@@ -47,4 +47,5 @@ module _ (c : List ℕ) where
   pub map-point-at : {B : Type 0} (f : ℤ → B) (k : ℕ) (b : B) → k < point_count c
       → get_or (map f (line_contents c).points) k b ≡ f (point_of c k)
   map-point-at f k b h =
-      map_at f (line_contents c).points k (pos 0) b (omega (arith, points-long)) ∙ ap f (map-up_to-at (point_of c) (point_count c) k (pos 0) h)
+      map_at f (line_contents c).points k (pos 0) b (omega (arith, points-long))
+      ∙ ap f (map-up_to-at (point_of c) (point_count c) k (pos 0) h)

@@ -1,5 +1,7 @@
 // The numbers that stand on a card (document 01, "The card"), read off its bytes, and the coefficients of its polynomials. Each call asks that the
 // bytes it reads are there; the crate `card` checks a whole card. Bodies and points are those of the line: the crate `plane` has those of the plane.
+#![tactic(auto)]
+
 ghost use Rattle.std.specs.Prelude.{◌≡◌, ◌+◌, ◌*◌, ◌^◌, ◌≤◌, ◌<◌, length};
 ghost use Rattle.refusals.specs.Limits.{most_coefficient};
 ghost use Rattle.integers.specs.Search.{outside};

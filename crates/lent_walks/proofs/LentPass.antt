@@ -6,15 +6,16 @@
 use mathlib.Core.Path.{refl, ap, subst}
 use mathlib.Core.List.{List, [], ◌∷◌}
 use Prim.Native.Nat.{ℕ}
-use mir.Syntax.{Fn, Name, named, erased, mut, ty_ref, local, value_local, place, deref, copy, addr_of, seq, assign, call, return}
+use mir.Syntax.{Fn, Callee, named, erased, mut, ty_ref, local, value_local, place, deref, copy, addr_of, seq, assign, call, return}
 use mir.Val.{Val, vptr}
 use seplogic.Ra.Ura.{Ura}
-use seplogic.Ra.TreeShare.{full_share}
-use base.Logic.{SProp, ent, sep, emp, via, fst∗, id⊢}
-use base.Fml.{Lft, GName, Share, ftrue, fat, flft, fres}
+use base.Fraction.{full_share}
+use base.Logic.{SProp, ent, sep, emp, via, fst∗, comm∗, id⊢}
+use base.Fml.{Lft, GName, Share, Fml, ftrue, fsep, fat, flft, fres, fbor}
 use prog.Wp.{Calls, Loops, WpFn, Tables}
 use types.Logic.{Logic, sem}
-use contract.Monad.{fact}
+use types.SemTy.{Body}
+use contract.Monad.{fact, fact_i}
 use types.Kit.{‵, raw, ◌⊛◌, ⋆, some, later, ◌$◌, ◌∵◌, !, qed, by, move, keep, drop, use0, use1, use2, split, join, pick, rewrite}
 use types.Kit.{fsplit, fjoin, suffices, frame, await, done}
 use types.Run.{look, init, forget, stop, hop, from, load, addr, and_then, no_more, assigns, land, returns, enter, alloc1, alloc0, params1}
@@ -22,21 +23,21 @@ use types.Run.{pass1, pass0, free1, free0}
 use sound.WpLaws.{FmC, fm_of, WpFn-mono}
 use denote.RattleType.{owns}
 use denote.Laws.{Is, shows}
-use denote.Memory.{pointee}
+use denote.Memory.{mem, pointee}
 use denote.Ref.{MutBor, MutRef, mut_vals, mut_Tells}
 use denote.Signature.{Signature, plain, mut_ref_to}
 use denote.Steps.{only, peeks, heard, nothing}
 use denote.Triple.Call.{calls_at}
-use denote.Triple.Clauses.{Ended, Clauses, closing, ensured, lasts}
+use denote.Triple.Clauses.{Ended, Clauses, at_exit, closing, ensured, lasts}
 use denote.Triple.Statement.{Contract, Triple}
 use denote.Triple.Entry.{on_entry}
 use denote.Triple.Spec.{Meets, triple_of}
-use denote.Triple.Walked.{says, Stays, stay_none, gave_ref, walk_of, Goes-none, Goes-gave_ref, ends_at, walked, walk_Meets}
+use denote.Triple.Walked.{Stays, on_exit, stay_none, gave_ref, walk_of, Goes-none, Goes-gave_ref, ends_at, walked, walk_Meets}
 use denote.Exit.{yes}
 use Rattle.lent_walks.proofs.Thin.{Data, Good, owned_of, calls_plain}
 use Rattle.lent_walks.proofs.Pieces.{Piece, Passed, piece_of, passed_of}
 
-module _ (d : Piece) (e : Passed) (s r : Piece) (f g : Name)
+module _ (d : Piece) (e : Passed) (s r : Piece) (f g : Callee)
     (φ : d.lone.Denot → e.lone.Denot → d.lone.Denot → s.lone.Denot → Type 0) (χ : s.lone.Denot → r.lone.Denot → Type 0)
     (ψ : d.lone.Denot → e.lone.Denot → d.lone.Denot → r.lone.Denot → Type 0)
     (follows : (h : d.lone.Denot) (z : e.lone.Denot) (h' : d.lone.Denot) (y : s.lone.Denot) (v : r.lone.Denot) → φ h z h' y → χ
@@ -59,6 +60,8 @@ module _ (d : Piece) (e : Passed) (s r : Piece) (f g : Name)
   passing = record {
     lifetimes = 1;
     outlives = [];
+    ty_params = [];
+    givens = 0;
     params = 2;
     locals = local r.lone.ty value_local ∷ local (ty_ref (named 0) mut (pointee d.lone.written)) value_local ∷ local e.lone.ty
         value_local ∷ local s.lone.ty value_local ∷ local (ty_ref erased mut (pointee d.lone.written)) value_local ∷ [];
@@ -146,17 +149,29 @@ module _ (d : Piece) (e : Passed) (s r : Piece) (f g : Name)
     asked-g : (y : s.lone.Denot) → Good S y → ent 𝓤 (emp 𝓤) ((Show 𝓛).pre (to_g y))
     asked-g y y_is = qed 𝓛 [] ∵ nothing ! $ nothing ! $ owned_of ! S y y_is $ fjoin ! $ nothing ! $ join ! $ frame ! $ done !
 
-    exits : (h' : d.lone.Denot) (y : s.lone.Denot) (v : r.lone.Denot) → φ h z h' y → χ y v → Good R v
-        → ent 𝓤 (⋆ 𝓛 (‵ (flft κ q) ∷ ‵ (fres γ (D.row.coded.code h')) ∷ [])) (Post (r.val v))
-    exits h' y v i c v_is =
-        qed 𝓛 (‵ (flft κ q) ∷ ‵ (fres γ (D.row.coded.code h')) ∷ []) ∵
+    -- what is had of x once it has been passed on: what says its last value, and its borrow, closed
+    abbrev Left : d.lone.Denot → Fml
+    Left h' = fsep (fres γ (D.row.coded.code h')) (fbor κ (Body (mem D.row) b o γ))
+
+    -- what is promised where x is left at h' and the result is v, and that it follows from what f and g promise
+    abbrev Promised : d.lone.Denot → r.lone.Denot → SProp 𝓤
+    Promised h' v = (clauses 𝓤 (κ, tt) x).ensures tt v (at_exit ended (κ, tt) x (h', (tt, tt)))
+
+    abbrev Keeps : Type 1
+    Keeps = (h' : d.lone.Denot) (y : s.lone.Denot) (v : r.lone.Denot) → φ h z h' y → χ y v → ent 𝓤 (emp 𝓤) (Promised h' v)
+
+    exits : Keeps → (h' : d.lone.Denot) (y : s.lone.Denot) (v : r.lone.Denot) → φ h z h' y → χ y v → Good R v
+        → ent 𝓤 (⋆ 𝓛 (‵ (flft κ q) ∷ ‵ (Left h') ∷ [])) (Post (r.val v))
+    exits told h' y v i c v_is =
+        qed 𝓛 (‵ (flft κ q) ∷ ‵ (Left h') ∷ []) ∵
         suffices ! _ (ends_at 𝓛 ended stayed (clauses 𝓤) (((κ, tt), (q, tt), tt, x, at), tt) (r.val v) v (h', (tt, tt))
         (tt, (tt, tt))) $
-        says ! (follows h z h' y v i c) $ nothing ! $ move ! (1 ∷ 0 ∷ []) $ join ! $ frame ! $ nothing ! $ owned_of ! E z z-is $ fjoin ! $
-        move ! (1 ∷ 0 ∷ []) $ fjoin ! $ owned_of ! R v v_is $ move ! (1 ∷ 0 ∷ []) $ done !
+        suffices ! _ (comm∗ 𝓤 (Promised h' v) (on_exit 𝓛 ended stayed (κ, tt) (q, tt) at (r.val v) v x (h', (tt, tt)))) $
+        use0 𝓛 (raw (Promised h' v)) (told h' y v i c) $ frame ! $ nothing ! $ move ! (1 ∷ 0 ∷ []) $ join ! $ frame ! $ nothing ! $
+        owned_of ! E z z-is $ fjoin ! $ move ! (1 ∷ 0 ∷ []) $ fjoin ! $ owned_of ! R v v_is $ move ! (1 ∷ 0 ∷ []) $ done !
 
     module _ (C : Calls 𝓤 H) (Λ : Loops 𝓤 H) (fm : FmC 𝓤 H 𝓛.laws C) (takes : Triple 𝓤 (C f) (Take 𝓛))
-        (shown : Triple 𝓤 (C g) (Show 𝓛)) where
+        (shown : Triple 𝓤 (C g) (Show 𝓛)) (told : Keeps) where
       walk : ent 𝓤 (on_entry 𝓛 (lent_sig R) (κ, tt) (q, tt) x at) (WpFn 𝓤 H C Λ passing (vptr b o ∷ e.val z ∷ []) Post)
       walk =
           qed 𝓛 ((‵ (flft κ q) ⊛ ‵ ftrue) ∷ ‵ (owns (MutRef (named 0) κ D.row ∷ E.row ∷ []) x at) ∷ []) ∵ split ! $ move ! (2 ∷ []) $
@@ -189,7 +204,7 @@ module _ (d : Piece) (e : Passed) (s r : Piece) (f g : Name)
           land ! (from ! (stop !)) (init ! 11 refl ((R.lawful 𝓛).typed v _ v_is).0) $
           returns ! (look ! 11 refl) $ forget ! 3 refl $ forget ! 5 refl $ forget ! 7 refl $ forget ! 9 refl $ forget ! 11 refl $
           move ! (11 ∷ 12 ∷ []) $ free1 ! $ move ! (9 ∷ 10 ∷ []) $ free1 ! $ move ! (7 ∷ 8 ∷ []) $ free1 ! $ move ! (5 ∷ 6 ∷ []) $ free1 ! $
-          move ! (3 ∷ 4 ∷ []) $ free1 ! $ free0 ! $ keep ! (0 ∷ 2 ∷ []) $ by ! (exits ws.0 y v i c v_is))))))))))))
+          move ! (3 ∷ 4 ∷ []) $ free1 ! $ free0 ! $ keep ! (0 ∷ 2 ∷ []) $ by ! (exits told ws.0 y v i c v_is))))))))))))
         where
           spelled : (y : s.lone.Denot) (w : Val) → Is S.row y (w ∷ []) → Good S y
           spelled y w is = subst (Is S.row y) (S.tells y _ is) is
@@ -207,5 +222,6 @@ module _ (d : Piece) (e : Passed) (s r : Piece) (f g : Name)
         (WpFn-mono 𝓤 H 𝓛.laws 𝓣 passing)
         (walked 𝓛 ended stayed (clauses 𝓤) (WpFn 𝓤 H 𝓣.C 𝓣.Λ passing) (λ κs. (mut_vals, ((λ z. e.val z ∷ []), tt)))
         (λ κs. (mut_Tells (named 0) κs.0 D.row, (E.tells, tt)))
-        (λ κs qs bounds a _ are. via 𝓤 _ (fst∗ 𝓤 _ (emp 𝓤)) (walk 𝓛 κs.0 qs.0 a.0.ptr.0 a.0.ptr.1 a.0.name
-        a.0.now a.1.0 are.1.0 𝓣.C 𝓣.Λ (fm_of 𝓤 H 𝓛.laws 𝓣) takes shown)))
+        (λ κs qs bounds a _ are. via 𝓤 _ (fst∗ 𝓤 _ (emp 𝓤)) (walk 𝓛 κs.0 qs.0 a.0.ref_ptr.0 a.0.ref_ptr.1 a.0.ghost_name
+        a.0.now a.1.0 are.1.0 𝓣.C 𝓣.Λ (fm_of 𝓤 H 𝓛.laws 𝓣) takes shown
+        (λ h' y v i c. fact_i 𝓤 _ (emp 𝓤) (follows a.0.now a.1.0 h' y v i c)))))

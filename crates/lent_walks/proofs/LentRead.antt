@@ -4,7 +4,7 @@
 use mathlib.Core.Path.{refl}
 use mathlib.Core.List.{[], ◌∷◌}
 use Prim.Native.Nat.{ℕ}
-use mir.Syntax.{Fn, Name, named, imm, ty_ref, local, value_local, place, deref, copy, rv_opd, seq, assign, call, return}
+use mir.Syntax.{Fn, Callee, named, imm, ty_ref, local, value_local, place, deref, copy, rv_opd, seq, assign, call, return}
 use mir.Val.{Val, vptr}
 use seplogic.Ra.Ura.{Ura}
 use base.Logic.{SProp, ent, emp, via, fst∗, id⊢}
@@ -12,14 +12,15 @@ use base.Fml.{Lft, Share, Fml, ftrue, flft}
 use prog.Wp.{Calls, Loops, WpFn, Tables}
 use types.Logic.{Logic}
 use contract.Monad.{fact}
-use types.Kit.{‵, raw, ◌⊛◌, ⋆, ◌$◌, ◌∵◌, !, qed, by, move, keep, drop, use0, use1, split, join, fsplit, fsplit3, fjoin, suffices}
+use types.Kit.{‵, raw, ◌⊛◌, ⋆, ◌$◌, ◌∵◌, !, qed, by, move, keep, drop, use0, split, join, fsplit, fjoin, suffices}
 use types.Kit.{frame, done}
 use types.Run.{look, look_raw, init, forget, stop, hop, from, load, of_opd, and_then, no_more, assigns, land, returns, enter, alloc1}
 use types.Run.{alloc0, params1, pass1, pass0, free1, free0}
 use sound.WpLaws.{FmC, fm_of, WpFn-mono}
 use denote.RattleType.{owns}
-use denote.Memory.{pointee}
-use denote.Ref.{Bor, ShrRef, shr_vals, shr_Tells, shr_copy}
+use denote.Memory.{pointee, shared_of}
+use denote.Opens.{twice_dup}
+use denote.Ref.{Bor, ShrRef, shr_vals, shr_Tells}
 use denote.Signature.{Signature, plain, shr_ref_to}
 use denote.Steps.{nothing}
 use denote.Triple.Clauses.{Ended, Clauses, closing}
@@ -31,7 +32,7 @@ use denote.Exit.{yes}
 use Rattle.lent_walks.proofs.Thin.{Data, Good, owned_of, looked, shut, calls_plain}
 use Rattle.lent_walks.proofs.Pieces.{Piece, Passed, piece_of, passed_of}
 
-module _ (d : Piece) (e : Passed) (r : Piece) (f : Name) (φ : d.lone.Denot → e.lone.Denot → r.lone.Denot → Type 0) where
+module _ (d : Piece) (e : Passed) (r : Piece) (f : Callee) (φ : d.lone.Denot → e.lone.Denot → r.lone.Denot → Type 0) where
   abbrev D : Data
   D = piece_of d
 
@@ -46,6 +47,8 @@ module _ (d : Piece) (e : Passed) (r : Piece) (f : Name) (φ : d.lone.Denot → 
   reading = record {
     lifetimes = 1;
     outlives = [];
+    ty_params = [];
+    givens = 0;
     params = 2;
     locals = local r.lone.ty value_local ∷ local (ty_ref (named 0) imm (pointee d.lone.written)) value_local ∷ local e.lone.ty
         value_local ∷ local d.lone.ty value_local ∷ [];
@@ -92,10 +95,10 @@ module _ (d : Piece) (e : Passed) (r : Piece) (f : Name) (φ : d.lone.Denot → 
     h = x.now
 
     abbrev b : ℕ
-    b = x.ptr.0
+    b = x.ref_ptr.0
 
     abbrev o : ℕ
-    o = x.ptr.1
+    o = x.ref_ptr.1
 
     -- the parameters' machine values, and what the reference owns
     abbrev at : Vals sig (κ, tt)
@@ -127,17 +130,16 @@ module _ (d : Piece) (e : Passed) (r : Piece) (f : Name) (φ : d.lone.Denot → 
       walk : ent 𝓤 (on_entry 𝓛 sig (κ, tt) (q, tt) (x, (z, tt)) at) (WpFn 𝓤 H C Λ reading (vptr b o ∷ e.val z ∷ []) Post)
       walk =
           qed 𝓛 ((‵ (flft κ q) ⊛ ‵ ftrue) ∷ ‵ (owns (ShrRef (named 0) κ D.row ∷ E.row ∷ []) (x, (z, tt)) at) ∷ []) ∵
-          -- a `&` is Copy: what it owns is had twice, one copy is kept whole for the exit, and of the other only the fractured borrow is
-          -- kept
-          split ! $ move ! (2 ∷ []) $ fsplit ! $ use1 𝓛 (‵ Ref ⊛ ‵ Ref) ((shr_copy 𝓛 (named 0) κ D.row).twice x (vptr b o ∷ [])) $
-          split ! $ fsplit3 ! $ drop ! $ drop ! $ keep ! (0 ∷ 3 ∷ 1 ∷ []) $
-          -- [the fractured borrow; the token; what the reference owns]
+          -- a `&` is Copy: what it owns is had twice, one copy is kept whole for the exit, and of the other only what the `&` holds is kept
+          split ! $ move ! (2 ∷ []) $ fsplit ! $ fsplit ! $ move ! (1 ∷ []) $ twice_dup ! (shared_of D.row h b o) ((D.opens 𝓛) h b o).1 κ $
+          move ! (2 ∷ 1 ∷ []) $ fjoin ! $ keep ! (1 ∷ 3 ∷ 0 ∷ []) $
+          -- [what the `&` holds; the token; what the reference owns]
           enter ! C Λ reading (vptr b o ∷ e.val z ∷ []) _ $
           alloc1 ! (λ l₀. alloc1 ! (λ l₁. alloc1 ! (λ l₂. alloc1 ! (λ l₃. alloc0 ! $ params1 ! $ pass1 ! (init ! 4 refl (tt, tt)) $ pass1
           ! (init ! 2 refl ((E.lawful 𝓛).typed z _ z-is).0) $ pass0 ! $
           -- _3 = *x
           move ! (8 ∷ 9 ∷ []) $ looked ! tt D h b o (λ t h-is.
-          -- [a share of the cell; what shuts it; the fractured borrow; _3; …; _2; …; _1; …; room for _0; …; what the reference owns]
+          -- [a share of the cell; what shuts it; what the `&` holds; _3; …; _2; …; _1; …; room for _0; …; what the reference owns]
           assigns ! (of_opd ! (load ! (from ! (hop ! (look ! 7 refl) (stop !))) (look_raw ! 0 refl))) (from ! (stop !))
           (init ! 3 refl ((D.lawful 𝓛).typed h _ h-is).0) $
           shut ! tt D t h h-is b o $
@@ -146,7 +148,7 @@ module _ (d : Piece) (e : Passed) (r : Piece) (f : Name) (φ : d.lone.Denot → 
           calls_plain ! fm ended-f (clauses_f 𝓤) known to (and_then ! (load ! (from ! (stop !)) (look ! 3 refl))
           (and_then ! (load ! (from ! (stop !)) (look ! 5 refl)) (no_more !)))
           r.val R.tells (φ h z) (λ y _. id⊢ 𝓤 _) (λ y p y_is. drop ! $
-          -- [the token; the fractured borrow; _3; …; _2; …; _1; …; room for _0; …; what the reference owns]
+          -- [the token; what the `&` holds; _3; …; _2; …; _1; …; room for _0; …; what the reference owns]
           land ! (from ! (stop !)) (init ! 8 refl ((R.lawful 𝓛).typed y _ y_is).0) $
           returns ! (look ! 8 refl) $ forget ! 2 refl $ forget ! 4 refl $ forget ! 6 refl $ forget ! 8 refl $
           move ! (8 ∷ 9 ∷ []) $ free1 ! $ move ! (6 ∷ 7 ∷ []) $ free1 ! $ move ! (4 ∷ 5 ∷ []) $ free1 ! $ move ! (2 ∷ 3 ∷ []) $ free1 ! $

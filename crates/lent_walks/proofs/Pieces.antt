@@ -10,10 +10,12 @@ use mir.Syntax.{Ty, Width, Written}
 use mir.Val.{Val, vint, of_z}
 use seplogic.Ra.Ura.{Ura}
 use base.Stored.{Coded}
-use base.Fml.{Fml}
+use base.Fml.{Lft, Fml}
 use types.Logic.{Logic}
 use denote.RattleType.{RattleType}
 use denote.Laws.{Is, Tells, Makes, Lawful, Copy}
+use denote.Opens.{Opens}
+use denote.Copied.{uint_Copied, sint_Copied}
 use denote.Memory.{lone}
 use denote.Plain.{UInt, uint_Tells, uint_Makes, uint_Lawful, uint_copy}
 use denote.Signed.{SInt, sint_Tells, sint_Makes, sint_Lawful, sint_copy}
@@ -24,6 +26,7 @@ use denote.Struct.Declared as SD
 use denote.Struct.Laws as SL
 use denote.Enum.Declared as ED
 use denote.Enum.Laws as EL
+use Prim.Native.Nat.{ℕ}
 use Rattle.lent_walks.proofs.Thin.{Data}
 
 pub record Lone : Type 2 where
@@ -31,9 +34,11 @@ pub record Lone : Type 2 where
   pub ty : Ty
   pub written : Written
   pub reaches : List (Written × List Ty)
-  pub own : Denot → List Val → Fml
+  pub lives : Lft
+  pub own_val : Denot → List Val → Fml
   pub exit : Kept → Exit Denot
   pub coded : Coded Denot
+  pub shr_at : Denot → ℕ → ℕ → Lft → Fml
 
 abbrev pub row_of : Lone → RattleType
 row_of L = record {
@@ -41,9 +46,11 @@ row_of L = record {
   mir = L.ty ∷ [];
   written = L.written;
   reaches = L.reaches;
-  own_val = L.own;
+  lives = L.lives;
+  own_val = L.own_val;
   exit = L.exit;
   coded = L.coded;
+  shr_at = L.shr_at;
 }
 
 abbrev pub apart : RattleType → Lone
@@ -52,9 +59,11 @@ apart R = record {
   ty = lone R.mir;
   written = R.written;
   reaches = R.reaches;
-  own_val = R.own;
+  lives = R.lives;
+  own_val = R.own_val;
   exit = R.exit;
   coded = R.coded;
+  shr_at = R.shr_at;
 }
 
 abbrev pub still : Lone → Lone
@@ -63,9 +72,11 @@ still L = record {
   ty = L.ty;
   written = L.written;
   reaches = L.reaches;
-  own_val = L.own;
+  lives = L.lives;
+  own_val = L.own_val;
   exit = λ _. unchanged;
   coded = L.coded;
+  shr_at = L.shr_at;
 }
 
 pub record Known (L : Lone) (val : L.Denot → Val) : Type 2 where
@@ -73,9 +84,10 @@ pub record Known (L : Lone) (val : L.Denot → Val) : Type 2 where
   pub lawful : {M : Type 1} {𝓤 : Ura M} (𝓛 : Logic 𝓤) → Lawful 𝓛 (row_of L)
   pub makes : {M : Type 1} {𝓤 : Ura M} (𝓛 : Logic 𝓤) → Makes 𝓛 (row_of L) (Is (row_of L))
   pub copy : {M : Type 1} {𝓤 : Ura M} (𝓛 : Logic 𝓤) → Copy 𝓛 (row_of L)
+  pub opens : {M : Type 1} {𝓤 : Ura M} (𝓛 : Logic 𝓤) → Opens 𝓛 (row_of L)
 
 abbrev pub data_of : (L : Lone) (val : L.Denot → Val) → Known L val → Data
-data_of L val k = record { row = row_of L; val = val; tells = k.tells; lawful = k.lawful; makes = k.makes; copy = k.copy }
+data_of L val k = record { row = row_of L; val = val; tells = k.tells; lawful = k.lawful; makes = k.makes; copy = k.copy; opens = k.opens }
 
 pub record Piece : Type 2 where
   pub lone : Lone
@@ -104,6 +116,7 @@ struct_piece T L pl cp = record {
     lawful = λ 𝓛. SL.lawful T L 𝓛;
     makes = λ 𝓛. SL.makes T pl 𝓛;
     copy = λ 𝓛. SL.copy T cp 𝓛;
+    opens = λ 𝓛. (SL.copied T cp 𝓛).opens;
   };
 }
 
@@ -116,6 +129,7 @@ enum_piece T L few pl cp = record {
     lawful = λ 𝓛. EL.lawful T L 𝓛 few;
     makes = λ 𝓛. EL.makes T pl 𝓛;
     copy = λ 𝓛. EL.copy T cp 𝓛;
+    opens = λ 𝓛. (EL.copied T cp 𝓛).opens;
   };
 }
 
@@ -128,6 +142,7 @@ unsigned_passed w = record {
     lawful = λ 𝓛. uint_Lawful 𝓛 w;
     makes = λ 𝓛. uint_Makes 𝓛 w;
     copy = λ 𝓛. uint_copy 𝓛 w;
+    opens = λ 𝓛. (uint_Copied 𝓛 w).opens;
   };
 }
 
@@ -140,5 +155,6 @@ signed_passed w = record {
     lawful = λ 𝓛. sint_Lawful 𝓛 w;
     makes = λ 𝓛. sint_Makes 𝓛 w;
     copy = λ 𝓛. sint_copy 𝓛 w;
+    opens = λ 𝓛. (sint_Copied 𝓛 w).opens;
   };
 }

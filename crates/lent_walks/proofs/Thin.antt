@@ -5,7 +5,7 @@
 --   struct, enum, signed, unsigned == the `Data` of a declared struct, of a declared enum, and of the signed and the unsigned integers
 --   owned_of                       == what D owns at x is had for nothing: it is dropped where it is met and made anew where it is asked
 --                                     for
---   looked, shut                   == a `&D` is looked into, which gives a share of the cell; and shut again
+--   looked, shut                   == what a `&D` holds is looked into, which gives a share of the cell; and shut again
 --   opened, closed                 == a `&mut D` is opened, which gives the cell with the value h; and closed at another value
 --   lent, back                     == the cell of a local is lent as a `&mut D` for a lifetime that is made for it; and once that has ended
 --                                     it is the local's cell again, at the reference's last value
@@ -13,13 +13,13 @@
 use mathlib.Core.Path.{sym, ap, subst}
 use mathlib.Core.List.{List, [], ◌∷◌}
 use Prim.Native.Nat.{ℕ}
-use mir.Syntax.{Width, Name, Place, Opd as Operand, Body as Code, seq, call, named}
+use mir.Syntax.{Width, Callee, Place, Opd as Operand, Body as Code, seq, call, named}
 use mir.Val.{Val, vint, vptr, of_z}
 use seplogic.Ra.Ura.{Ura}
-use seplogic.Ra.TreeShare.{full_share}
+use base.Fraction.{full_share}
 use base.Logic.{SProp, ent, via, snd∗, ex_e, id⊢}
 use base.Stored.{Gv}
-use base.Fml.{Lft, GName, Share, fsep, flft, fobs, fauth, fbor, fobor, fshr_bor, flent, fres}
+use base.Fml.{Lft, GName, Share, fsep, flft, fobs, fauth, fbor, fobor, flent, fres}
 use prog.Wp.{Env, Calls, Loops}
 use types.Logic.{Logic, sem}
 use sound.WpLaws.{FmC}
@@ -31,7 +31,9 @@ use types.SemTy.{Body}
 use types.Tokens.{lft_new, lft_end}
 use denote.RattleType.{RattleType}
 use denote.Laws.{Is, Tells, Makes, Lawful, Copy, shows}
-use denote.Memory.{mem, cell_at, part_at, part_of}
+use denote.Opens.{Opens, Shut}
+use denote.Copied.{uint_Copied, sint_Copied}
+use denote.Memory.{mem, cell_at, part_at, part_of, hidden_shr}
 use denote.Lend.{lends_ref, ref_back}
 use denote.Ref.{MutRef}
 use denote.Plain.{UInt, uint_Tells, uint_Makes, uint_Lawful, uint_copy}
@@ -59,6 +61,8 @@ pub record Data : Type 2 where
   pub lawful : {M : Type 1} {𝓤 : Ura M} (𝓛 : Logic 𝓤) → Lawful 𝓛 row
   pub makes : {M : Type 1} {𝓤 : Ura M} (𝓛 : Logic 𝓤) → Makes 𝓛 row (Is row)
   pub copy : {M : Type 1} {𝓤 : Ura M} (𝓛 : Logic 𝓤) → Copy 𝓛 row
+  -- a share of the value is had of what a `&` to it holds, and that is had twice
+  pub opens : {M : Type 1} {𝓤 : Ura M} (𝓛 : Logic 𝓤) → Opens 𝓛 row
 
 -- x has the machine value that it should
 abbrev pub Good : (D : Data) → D.row.Denot → Type 0
@@ -72,6 +76,7 @@ struct T L pl cp = record {
   lawful = λ 𝓛. SL.lawful T L 𝓛;
   makes = λ 𝓛. SL.makes T pl 𝓛;
   copy = λ 𝓛. SL.copy T cp 𝓛;
+  opens = λ 𝓛. (SL.copied T cp 𝓛).opens;
 }
 
 abbrev pub enum : (T : ED.Declared) → EL.Laws T → Few (ED.shape T) → Plainss (ED.variants T) → EL.Copyabless T.parts → Data
@@ -82,6 +87,7 @@ enum T L few pl cp = record {
   lawful = λ 𝓛. EL.lawful T L 𝓛 few;
   makes = λ 𝓛. EL.makes T pl 𝓛;
   copy = λ 𝓛. EL.copy T cp 𝓛;
+  opens = λ 𝓛. (EL.copied T cp 𝓛).opens;
 }
 
 abbrev pub signed : Width → Data
@@ -92,6 +98,7 @@ signed w = record {
   lawful = λ 𝓛. sint_Lawful 𝓛 w;
   makes = λ 𝓛. sint_Makes 𝓛 w;
   copy = λ 𝓛. sint_copy 𝓛 w;
+  opens = λ 𝓛. (sint_Copied 𝓛 w).opens;
 }
 
 abbrev pub unsigned : Width → Data
@@ -102,6 +109,7 @@ unsigned w = record {
   lawful = λ 𝓛. uint_Lawful 𝓛 w;
   makes = λ 𝓛. uint_Makes 𝓛 w;
   copy = λ 𝓛. uint_copy 𝓛 w;
+  opens = λ 𝓛. (uint_Copied 𝓛 w).opens;
 }
 
 module _ {M : Type 1} {𝓤 : Ura M} {𝓛 : Logic 𝓤} {K : Type 0} {Γ : List (Item 𝓤)} {G : Goal 𝓤 𝓛.H} where
@@ -119,15 +127,14 @@ module _ {M : Type 1} {𝓤 : Ura M} {𝓛 : Logic 𝓤} {K : Type 0} {Γ : List
   -- ---- a `&D`
   pub looked : K → Soaks G → (D : Data) {κ : Lft} {q : Share} (h : D.row.Denot) (b o : ℕ)
       → ((q' : Share) → Good D h
-      → Seq K 𝓛 (‵ (cell_at q' D.row.mir (D.val h ∷ []) b o) ∷ ‵ (fobor κ q (part_at D.row q' h b o)) ∷ ‵
-      (fshr_bor κ (λ s. part_at D.row s h b o)) ∷ Γ) G)
-      → Seq K 𝓛 (‵ (fshr_bor κ (λ s. part_at D.row s h b o)) ∷ ‵ (flft κ q) ∷ Γ) G
+      → Seq K 𝓛 (‵ (cell_at q' D.row.mir (D.val h ∷ []) b o) ∷ Shut 𝓛 κ q (part_at D.row q' h b o) ∷ ‵
+      (hidden_shr D.row κ h b o) ∷ Γ) G)
+      → Seq K 𝓛 (‵ (hidden_shr D.row κ h b o) ∷ ‵ (flft κ q) ∷ Γ) G
   looked t z D h b o k =
-      looks t z D.row (Is D.row) (shows 𝓛 D.row) (λ y. D.val y ∷ []) D.tells (D.copy 𝓛) h b o
-      (λ q' vs. written t D q' h vs b o (k q'))
+      looks t z D.row (D.opens 𝓛) h b o (λ q' vs. written t D q' h vs b o (k q'))
 
   pub shut : K → Soaks G → (D : Data) {κ : Lft} {q : Share} (q' : Share) (h : D.row.Denot) → Good D h → (b o : ℕ)
-      → Step K 𝓛 (‵ (flft κ q) ∷ Γ) G (‵ (cell_at q' D.row.mir (D.val h ∷ []) b o) ∷ ‵ (fobor κ q (part_at D.row q' h b o)) ∷ Γ) G
+      → Step K 𝓛 (‵ (flft κ q) ∷ Γ) G (‵ (cell_at q' D.row.mir (D.val h ∷ []) b o) ∷ Shut 𝓛 κ q (part_at D.row q' h b o) ∷ Γ) G
   shut t z D q' h is b o = step (λ s. owned_of t D h is $ move t (1 ∷ 0 ∷ []) $ shuts t z D.row q' h (D.val h ∷ []) b o $ s)
 
   -- ---- a `&mut D`
@@ -196,7 +203,7 @@ module _ {M : Type 1} {𝓤 : Ura M} {𝓛 : Logic 𝓤} {K : Type 0} {Γ : List
     {C : Calls 𝓤 𝓛.H} {Λ : Loops 𝓤 𝓛.H} {p : Post 𝓤 𝓛.H} where
   open 𝓛 use {H}
 
-  pub calls_plain : K → FmC 𝓤 H 𝓛.laws C → (T : Ended) (c : Clauses 𝓤 T) {f : Name} → Triple 𝓤 (C f) (Called 𝓛 T c)
+  pub calls_plain : K → FmC 𝓤 H 𝓛.laws C → (T : Ended) (c : Clauses 𝓤 T) {f : Callee} → Triple 𝓤 (C f) (Called 𝓛 T c)
       → (y : (Called 𝓛 T c).Ghost)
       → {xs : List Operand} → Opds K 𝓛 (raw ((Called 𝓛 T c).pre y) ∷ Γ) E xs ((Called 𝓛 T c).args y)
       → (val : (Result 𝓛 T c y).Denot → Val) → Tells (Result 𝓛 T c y) (Is (Result 𝓛 T c y)) (λ r. val r ∷ [])
@@ -205,7 +212,7 @@ module _ {M : Type 1} {𝓤 : Ura M} {𝓛 : Logic 𝓤} {K : Type 0} {Γ : List
       → Seq K 𝓛 (raw (Tokens 𝓛 T c y) ∷ Γ) (lands C Λ E d (val r) rest p))
       → Seq K 𝓛 (raw ((Called 𝓛 T c).pre y) ∷ Γ) (runs C Λ E (seq (call f xs d) rest) p)
   calls_plain t fm T c known y os val tells φ says {d} {rest} k = calls_at t fm (Called 𝓛 T c) known y os (λ v.
-      use1 𝓛 (later (some (λ (r : (Result 𝓛 T c y).Denot). (raw (Tokens 𝓛 T c y) ⊛ ‵ ((Result 𝓛 T c y).own r (v ∷ []))) ⊛ raw
+      use1 𝓛 (later (some (λ (r : (Result 𝓛 T c y).Denot). (raw (Tokens 𝓛 T c y) ⊛ ‵ ((Result 𝓛 T c y).own_val r (v ∷ []))) ⊛ raw
       (Ensured 𝓛 T c y r)))) (id⊢ 𝓤 _) $ await t tt $ pick t (λ r.
       split t $ move t (1 ∷ []) $ use1 𝓛 (raw (fact 𝓤 (φ r))) (said 𝓛 T c y φ says r) $ heard t (φ r) (λ e. split t $ move t (1 ∷ []) $
       peeks t (Result 𝓛 T c y) (Is (Result 𝓛 T c y)) (shows 𝓛 (Result 𝓛 T c y)) r (v ∷ []) (λ is. drop t $

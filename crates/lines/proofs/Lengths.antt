@@ -12,4 +12,4 @@ use Rattle.lines.proofs.Line.TheLaws as line-laws
 
 pub bytes-length : (l : Line) → Is (SD.row line-type.the_type) l (SL.val line-type.the_type line-laws.the_laws l ∷ [])
     → length l.bytes ≡ line_room
-bytes-length l g = sym (length-map l.bytes (λ v. v)) ∙ g.1.1.0.1.0.1
+bytes-length l g = g.1.1.0.1.0.1

@@ -1,4 +1,6 @@
 // The lines of a printout (document 01, "One card through") as bytes. The four lines have no condition; what serves the crates above may have one.
+#![tactic(auto)]
+
 ghost use Rattle.std.specs.Prelude.{◌≡◌, [], ◌∷◌, ◌++◌, ◌+◌, ◌≤◌, ◌<◌, length};
 ghost use Rattle.std.proofs.Math.Seq.{paste};
 ghost use Rattle.lines.specs.Text.{newline, space, digit, line_room, longest_line, decimal, signed, text_of, question_line, row_line, end_line, refusal_line};
@@ -18,7 +20,7 @@ pub const LINE_ROOM: usize = 80;
 const MOST_DIGITS: usize = 20;
 
 // A line: its text is the front `length` bytes.
-#[derive(Drop)]
+#[derive(Clone, Copy)]
 pub struct Line {
     pub bytes: [u8; LINE_ROOM],
     pub length: usize,

@@ -90,7 +90,8 @@ module _ (c : List ℕ) (at : ℕ) (s : PlaneBody c at) (p : Point) (u : nat_abs
   rises : (i : ℕ) → suc i < term_count c at → x_power c at i + six i ≤ x_power c at (suc i)
   rises i h = go (s.terms.rising i h)
     where
-      go : Before (x_power c at i) (y_power c at i) (x_power c at (suc i)) (y_power c at (suc i)) → x_power c at i + six i ≤ x_power c at (suc i)
+      go : Before (x_power c at i) (y_power c at i) (x_power c at (suc i)) (y_power c at (suc i)) → x_power c at i + six i ≤ x_power c at
+          (suc i)
       go (inl l) = omega (arith, s.terms.low i (omega arith))
       go (inr (e, l)) = omega (arith, e, l, s.terms.low (suc i) h)
 

@@ -45,7 +45,8 @@ pub record Turn (c : List ℕ) (at : ℕ) (x y : ℤ) (xs ys : List ℤ) (i a b 
 read_power : (x : ℤ) → nat_abs x ≤ most_point → SFits w64 x → (xs : List ℤ) → xs ≡ map (power (back x)) (up_to 7) → (a : ℕ) → a < 7
     → back (get_or xs a (pos 0)) ≡ power x a
 read_power x n f xs e a h =
-    let r = ap (λ (l : List ℤ). get_or l a (pos 0)) e ∙ map-up_to-at (power (back x)) 7 a (pos 0) h ∙ ap (λ (z : ℤ). power z a) (to_z-of_z f) in
+    let r = ap (λ (l : List ℤ). get_or l a (pos 0)) e ∙ map-up_to-at (power (back x)) 7 a (pos 0) h ∙ ap (λ (z : ℤ). power z a)
+    (to_z-of_z f) in
     ap back r ∙ to_z-of_z (power-fits x n a (omega arith))
 
 module _ {c : List ℕ} {at : ℕ} {x y : ℤ} {xs ys : List ℤ} {i a b : ℕ} {k : ℤ} {v : ℕ} (t : Turn c at x y xs ys i a b k v) where

@@ -1,6 +1,8 @@
 // Polynomials in X and Y on a card of points in the plane (document 02, wish 6): their terms, read off the card's bytes, and their values.
 //
 // The functions have a `requires`: they are for the crates above, whose calls show it.
+#![tactic(auto)]
+
 ghost use Rattle.std.specs.Prelude.{◌≡◌, map, ◌+◌, ◌*◌, ◌≤◌, ◌<◌, nat_abs, length};
 ghost use Rattle.refusals.specs.Limits.{most_degree, most_point};
 ghost use Rattle.integers.specs.Powers.{power};

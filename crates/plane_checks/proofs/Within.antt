@@ -2,9 +2,9 @@
 --
 -- z is what a call gave, and fits its bits; x is the number that it is by the call's contract
 use mathlib.Core.Path.{◌≡◌, ◌∙◌}
-use mathlib.Core.Bool.{Bool, true, false, not}
+use mathlib.Core.Bool.{Bool, true, false}
 use Prim.Native.Nat.{ℕ, ◌≤◌}
-use borrow.Author.Tests.{leb-true, leb-false, lt-ltb, not-true, not-false}
+use borrow.Author.Tests.{leb-true, leb-false, lt-ltb}
 use lib.Dec.{leb}
 use lib.IntN.{ℤ, pos, nat_abs}
 use mir.Syntax.{w64}
@@ -19,8 +19,8 @@ module _ {x z : ℤ} (f : SFits w64 z) (e : z ≡ x) (k : ℕ) {t : Bool} (d : t
   tested : t ≡ leb (nat_abs x) k
   tested = d ∙ rw (to_z-of_z f, e) (within_abs x k)
 
-  pub is_far : not t ≡ true → outside k x ≡ true
-  is_far h = lt-ltb k (nat_abs x) (leb-false (nat_abs x) k (rw tested at (not-true t h)))
+  pub is_far : t ≡ false → outside k x ≡ true
+  is_far h = lt-ltb k (nat_abs x) (leb-false (nat_abs x) k (rw tested at h))
 
-  pub is_near : not t ≡ false → nat_abs x ≤ k
-  is_near h = leb-true (nat_abs x) k (rw tested at (not-false t h))
+  pub is_near : t ≡ true → nat_abs x ≤ k
+  is_near h = leb-true (nat_abs x) k (rw tested at h)

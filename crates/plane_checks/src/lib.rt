@@ -2,6 +2,8 @@
 // of the first cause, or 0. The crate `card` has the checks of the header, the contents and the offsets, and those of a card of points on the line.
 //
 // Some functions have a `requires`: they are for the crate above, whose calls show it.
+#![tactic(auto)]
+
 ghost use Rattle.std.specs.Prelude.{◌≡◌, ◌+◌, ◌*◌, ◌≤◌, length};
 ghost use Rattle.refusals.specs.Numbers.{wrong_terms, wrong_coefficient, ◌when◌};
 ghost use Rattle.refusals.specs.Limits.{most_coefficient};

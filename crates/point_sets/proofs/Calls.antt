@@ -76,7 +76,8 @@ Standing c k r x =
 
 module _ (c : List ℕ) (S : Sound c) where
   -- a run answered by the card asks the questions of its patterns, one after the other
-  pub card-questions : {k : ℕ} {d : Run} {x : Step} → Plays c k d x → x ≡ step_at (questions (polynomials c) (patterns_in (contents_of c))) k
+  pub card-questions : {k : ℕ} {d : Run} {x : Step} → Plays c k d x → x ≡ step_at (questions (polynomials c) (patterns_in (contents_of c)))
+      k
   card-questions =
       played_questions (contents_of c) Run state_of Started Took Fetches Copies kept (Asks c) (asks-query c S) S.s_least S.s_most
       (omega (arith, points-few c, S.n_most))

@@ -1,6 +1,8 @@
 // Values of polynomials in one variable, by their coefficients from the constant up (document 01, "The card": degree 0 to 6).
 //
 // `evaluate` and `sign` have a `requires`: they are for the crates above, whose calls show it.
+#![tactic(auto)]
+
 ghost use Rattle.std.specs.Prelude.{◌≡◌, ◌≤◌, nat_abs};
 ghost use Rattle.refusals.specs.Limits.{most_coefficient};
 ghost use Rattle.integers.specs.Sums.{Within};

@@ -13,7 +13,7 @@ use borrow.Author.Tests.{le-leb, lt-leb}
 use lib.ListN.{length, take, drop}
 use lib.Seq.{take_at, drop_at}
 use contract.Lifetimes.{Lfts}
-use denote.Ref.{Bor}
+use denote.Ref.{Bor, MutBor}
 use Rattle.lines.specs.Text.{text_of}
 use Rattle.printout.specs.declared.Progress.{Progress}
 use Rattle.printout.specs.declared.Printed.{Printed}
@@ -67,7 +67,7 @@ placed_is t out = record {
 }
 
 -- the text of the card's lines at the front of a slice that has room for it, and 15 where it has not
-pub code_printout : (κs : Lfts 2) (card out out' : Bor (List ℕ)) (o : Written)
+pub code_printout : (κs : Lfts 2) (card : Bor (List ℕ)) (out out' : MutBor (List ℕ)) (o : Written)
     → printout.Learnt κs (card, (out, tt)) o (card, (out', tt)) → Placed (printout_of card.now) out.now o out'.now
 code_printout κs card out out' o e =
     subst (λ (p : Written × List ℕ). Placed (printout_of card.now) out.now p.0 p.1) (sym e)

@@ -54,7 +54,8 @@ refused-text = refl
 
 -- `Q 0 0` and `E 1`
 empty_text : printout_of empty ≡ (81 ∷ 32 ∷ 48 ∷ 32 ∷ 48 ∷ 10 ∷ 69 ∷ 32 ∷ 49 ∷ 10 ∷ [])
-unfolding printout_of together lines_of sound_lines question_lines row_lines questions refusal header_refusal contents_refusal bodies_refusal
+unfolding printout_of together lines_of sound_lines question_lines row_lines questions refusal header_refusal contents_refusal
+    bodies_refusal
     polynomial_refusal coefficients_refusal points_refusal any_below offset two's word
     question_line end_line decimal decimal_to signed query_in patterns_in up_to sum_ℤ realized rows_of row_if times distinct
 empty_text = refl
@@ -77,7 +78,8 @@ circle_lines : lines_of circle ≡
     ∷ row_line 2 1 ∷ row_line 3 1 ∷ row_line 4 1 ∷ row_line 6 2 ∷ end_line 9 ∷ [])
 unfolding lines_of sound_lines question_lines row_lines questions rounds_to restrict refusal header_refusal contents_refusal bodies_refusal
     plane_refusal plane_points_refusal any_below offset two's word
-    query_in product_to patterns_in pattern_to plane_value value_at card_point sign_digit power up_to sum_ℤ sum_to distinct without same_point
+    query_in product_to patterns_in pattern_to plane_value value_at card_point sign_digit power up_to sum_ℤ sum_to distinct without
+    same_point
     realized rows_of row_if times patterns round_of adapted restrictions signs_of keep shift
 circle_lines = refl
 
@@ -87,7 +89,8 @@ twice_lines : lines_of twice ≡
     ∷ row_line 4 3 ∷ end_line 5 ∷ [])
 unfolding lines_of sound_lines question_lines row_lines questions rounds_to restrict refusal header_refusal contents_refusal bodies_refusal
     plane_refusal plane_points_refusal any_below offset two's word
-    query_in product_to patterns_in pattern_to plane_value value_at card_point sign_digit power up_to sum_ℤ sum_to distinct without same_point
+    query_in product_to patterns_in pattern_to plane_value value_at card_point sign_digit power up_to sum_ℤ sum_to distinct without
+    same_point
     realized rows_of row_if times patterns round_of adapted restrictions signs_of keep shift
 twice_lines = refl
 

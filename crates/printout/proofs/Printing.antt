@@ -301,7 +301,8 @@ module _ (c : List ℕ) (S : Sound c) where
 -- ---- any card
 
 -- a refused card, whatever the state is
-pub refused-prints : (c : List ℕ) (r : State) (k : ℕ) → refusal c ≡ suc k → Prints (at (opened c) r (question 0)) (refusal_line (suc k) ∷ [])
+pub refused-prints : (c : List ℕ) (r : State) (k : ℕ) → refusal c ≡ suc k → Prints (at (opened c) r (question 0))
+    (refusal_line (suc k) ∷ [])
 refused-prints c r k e =
     prints_more (at (opened c) r (question 0)) (at (opened c) r over) (refusal_line (suc k)) []
     (unfold next_of next_at on_answer in

@@ -30,7 +30,8 @@ use Rattle.printout.specs.declared.Stage as code-stage
 use Rattle.printout.specs.declared.Stage.TheVariants as stages
 use Rattle.printout.specs.declared.Progress.{Progress}
 use Rattle.printout.specs.declared.Printed.{Printed}
-use Rattle.printout.specs.Progress.{Stage, progress_of, stage_of, begun_of, gives, on_step, on_answer, on_fetch, after_row, next_at, next_of}
+use Rattle.printout.specs.Progress.{Stage, progress_of, stage_of, begun_of, gives, on_step, on_answer, on_fetch, after_row, next_at}
+use Rattle.printout.specs.Progress.{next_of}
 use Rattle.printout.specs.Progress.{Shows}
 
 -- ---- a line made from its parts
@@ -102,7 +103,8 @@ module _ (o : Printed) (card : Opened) (run : Run) (α : ℕ) (x y : Queried) (s
   unfolding on_answer
   numbered t e s = subst (λ (v : Queried). Shows o (on_answer card (state_of run) α v)) (sym e ∙ same) s
 
-  pub not_shown : (k : ℕ) → x ≡ of-query.Refused k → Made o card run stages.Over (refusal_line k) → Shows o (on_answer card (state_of run) α y)
+  pub not_shown : (k : ℕ) → x ≡ of-query.Refused k → Made o card run stages.Over (refusal_line k)
+      → Shows o (on_answer card (state_of run) α y)
   unfolding on_answer
   not_shown k e m =
       subst (λ (v : Queried). Shows o (on_answer card (state_of run) α v)) (sym e ∙ same) (shown o card run stages.Over (refusal_line k) m)

@@ -1,6 +1,6 @@
 -- The printout of a card (document 01, "One card through"), straight from the patterns of its points.
 --
---   rounds_to i E                   == the products of rounds 1 .. i (document 01, "The run"): "Round i (1 to s) takes the rows found for P1
+-- rounds_to i E                   == the products of rounds 1 .. i (document 01, "The run"): "Round i (1 to s) takes the rows found for P1
 --                                     .. P(i−1), their adapted list A (for i = 1: product 0 alone), and asks every a in A with 3^(i−1)
 --                                     added, in order, then every a with 2 × 3^(i−1) added"
 --   questions s E                  == all products, in order: "Round 0 asks product 0 .. If n is 0 the run is done with no rows"

@@ -2,6 +2,8 @@
 //
 // `begin`, `next_line` and `printout` have no condition: any bytes, and any progress, have an answer. `put_lines` is for programs that lend a slice with
 // room for any printout, which their proofs show.
+#![tactic(auto)]
+
 ghost use Rattle.std.specs.Prelude.{◌≡◌, List, [], ◌∷◌, ◌++◌, ℕ, ◌+◌, ◌*◌, ◌≤◌, ℤ, length, take};
 ghost use Rattle.query.specs.Opened.{opened_answer as answer_on};
 ghost use Rattle.refusals.specs.Limits.{most_points};
@@ -33,7 +35,7 @@ const SHORT_LINE: usize = 11;
 pub const MOST_TEXT: usize = MOST_LINES * SHORT_LINE + (MOST_ROWS + 2) * LONGEST_LINE;
 
 // What comes next: a question, the row at a position, or nothing more.
-#[derive(Drop)]
+#[derive(Clone, Copy)]
 pub enum Stage {
     Ask(Product),
     Row(usize),
@@ -41,7 +43,7 @@ pub enum Stage {
 }
 
 // A printout that goes on: the opened card, the run on it, and what comes next.
-#[derive(Drop)]
+#[derive(Clone, Copy)]
 pub struct Progress {
     pub card: Opened,
     pub run: Run,
@@ -49,14 +51,14 @@ pub struct Progress {
 }
 
 // A line, and the progress after it.
-#[derive(Drop)]
+#[derive(Clone, Copy)]
 pub struct Printed {
     pub progress: Progress,
     pub line: Line,
 }
 
 // How many bytes a printout has, or the number that refuses the slice.
-#[derive(Drop)]
+#[derive(Clone, Copy)]
 pub enum Written {
     Bytes(usize),
     Refused(u16),
@@ -181,7 +183,7 @@ fn put_rows(patterns: &[u16], counts: &[u16], asked: usize, out: &mut [u8], at: 
 }
 
 // A question of a printout behind it: the numbers of the run's record, the next product, where the text ends, and whether it is over.
-#[derive(Drop)]
+#[derive(Clone, Copy)]
 struct Played {
     head: Head,
     product: u16,

@@ -52,7 +52,8 @@ module _ (c : List ℕ) (α : ℕ) where
   query_read m = go (refusal c)
     where
       go : (k : ℕ) → unless k card.Refused (card.Sound (polynomials c) (point_count c)) ≡ card.Refused m
-          → of-query.Refused m ≡ unless (k ▸ wrong_product when leb (3 ^ polynomials c) α) of-query.Refused (of-query.Counts (counts_of c α))
+          → of-query.Refused m ≡ unless (k ▸ wrong_product when leb (3 ^ polynomials c) α) of-query.Refused
+          (of-query.Counts (counts_of c α))
       go zero e = let z : ◌≡◌ {A = ℕ} 0 1 = cc in absurd (omega arith)
       go (suc k) e = let z : m ≡ suc k = cc in ap of-query.Refused z
 

@@ -262,7 +262,11 @@ sum-up_to : (f : ℕ → ℤ) → ((k : ℕ) → sgn_ℤ (f k) ≡ f k) → (n :
 unfolding up_to sum_to sum_ℤ
 sum-up_to f e zero = refl
 sum-up_to f e (suc n) =
-    rw (map-append f (up_to n) (n ∷ []), map-append sgn_ℤ (map f (up_to n)) (f n ∷ []), sum_ℤ-++ (map sgn_ℤ (map f (up_to n))) (sgn_ℤ (f n) ∷ []))
+    rw (
+      map-append f (up_to n) (n ∷ []),
+      map-append sgn_ℤ (map f (up_to n)) (f n ∷ []),
+      sum_ℤ-++ (map sgn_ℤ (map f (up_to n))) (sgn_ℤ (f n) ∷ []),
+    )
     (ap₂ ◌+ℤ◌ (sum-up_to f e n) (+ℤ_idr (sgn_ℤ (f n)) ∙ e n))
 
 -- the law: the first count less the second is the sum of the signs

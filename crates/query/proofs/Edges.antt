@@ -89,7 +89,8 @@ pub record QueryEdges : Type 0 where
   pub card-first : query_answer (take 41 example) 27 ≡ of-query.Refused 1
 
 pub query_edges : QueryEdges
-unfolding query_answer counts_in sign_counts times product_to patterns_in pattern_to up_to sum_to power value plane_value value_at card_point sign_digit
+unfolding query_answer counts_in sign_counts times product_to patterns_in pattern_to up_to sum_to power value plane_value value_at
+    card_point sign_digit
     offset two's word plane_refusal plane_points_refusal refusal header_refusal contents_refusal bodies_refusal polynomial_refusal
     coefficients_refusal points_refusal any_below distinct without same_point
 query_edges =

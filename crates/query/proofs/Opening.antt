@@ -66,7 +66,11 @@ module _ {X : Type 0} (K : Contents X) (d : ℕ) where
 
   pub filled_none : Filled K d 0 (replicate most_polynomials 0)
   filled_none =
-      record { long = length-replicate {A = ℕ} most_polynomials 0; at = λ j. none_at most_polynomials j ∙ sym (word-past 0 j (omega arith)) }
+      record {
+        long = length-replicate {A = ℕ} most_polynomials 0;
+        at = λ j. none_at most_polynomials j
+            ∙ sym (word-past 0 j (omega arith));
+      }
 
   -- one polynomial more
   pub filled_next : (s : ℕ) (l : List ℕ) (v : ℕ) → Filled K d s l → s < most_polynomials → v ≡ sign_word K d s

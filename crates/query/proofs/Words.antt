@@ -97,7 +97,8 @@ module _ (l : List ℕ) where
   unfolding word_of
   word_none n h = rw (drop_of_length-le l h) refl
 
-  pub word_turn : (k x b : ℕ) → 0 < k → k ≤ length l → b ≡ get_or l (k - 1) 0 → x ≡ word_of (drop k l) → 2 * x + b ≡ word_of (drop (k - 1) l)
+  pub word_turn : (k x b : ℕ) → 0 < k → k ≤ length l → b ≡ get_or l (k - 1) 0 → x ≡ word_of (drop k l) → 2 * x + b
+      ≡ word_of (drop (k - 1) l)
   unfolding word_of
   word_turn k x b h g eb e =
       let ek : k ≡ suc (k - 1) = omega arith in

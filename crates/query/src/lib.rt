@@ -4,6 +4,8 @@
 // A card is opened once, and then answers any number of products with no polynomial evaluated again. `open`, `ask` and `query` have no condition: any
 // bytes, any product number and any opened card have an answer, and what is lent stays as it was. `refused` and `count` are the two parts of `ask`, for
 // lists of products (`query_list`): `count` is for a product that is there, on a card that is not refused, which its callers' proofs show.
+#![tactic(auto)]
+
 ghost use Rattle.std.specs.Prelude.{◌≡◌, ◌-◌, ◌^◌, ◌≤◌, ◌<◌};
 ghost use Rattle.std.specs.Int.Bits.{bit_and};
 ghost use Rattle.std.specs.Int.Count.{ones};
@@ -25,7 +27,7 @@ use signs::{Product, bound, power};
 const EVERY: u64 = 0xffff_ffff_ffff_ffff;
 
 // The three counts of a product, or the number that refuses the card or the product.
-#[derive(Drop)]
+#[derive(Clone, Copy)]
 pub enum Queried {
     Counts(SignCounts),
     Refused(u16),
@@ -35,7 +37,7 @@ pub enum Queried {
 // P(j+1) is positive at point k, in `negative[j]` where it is negative. Where both are set it is taken for negative; bits past the first n count for
 // nothing.
 #[repr(C)]
-#[derive(Drop)]
+#[derive(Clone, Copy)]
 pub struct Opened {
     pub refusal: u16,
     pub s: usize,
@@ -45,7 +47,7 @@ pub struct Opened {
 }
 
 // The points where one polynomial is positive, and those where it is negative, one bit each.
-#[derive(Drop)]
+#[derive(Clone, Copy)]
 struct Signs {
     positive: u64,
     negative: u64,

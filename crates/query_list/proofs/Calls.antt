@@ -9,7 +9,7 @@ use native.Mathlib.Decide.{dec_lt}
 use native.Mathlib.Omega.{arith}
 use native.Mathlib.Nat.{one-le-pow}
 use contract.Lifetimes.{Lfts}
-use denote.Ref.{Bor}
+use denote.Ref.{Bor, MutBor}
 use lib.IntN.{ℤ, pos}
 use lib.ListN.{length, get_or}
 use Rattle.integers.proofs.Tests.{eq_cases}
@@ -156,7 +156,7 @@ module _ (c l : List ℕ) (out : List ℤ) where
       unsound : (Sound c → ⊥) → Kept (refusal c) out (card_listing c l out).0 (card_listing c l out).1
       unsound n = rw (refused-card (refusal c) (polynomials c) (query_of c) l out (λ z. n (sound c z))) (refl, refl)
 
-module _ (κs : Lfts 3) (card products : Bor (List ℕ)) (out out' : Bor (List ℤ)) (o : Numbered)
+module _ (κs : Lfts 3) (card products : Bor (List ℕ)) (out out' : MutBor (List ℤ)) (o : Numbered)
     (called : query-all.Learnt κs (card, (products, (out, tt))) o (card, (products, (out', tt)))) where
   -- WISH 5 on a card
   pub list_gives : QueryAllGives card.now products.now out.now o out'.now
@@ -193,7 +193,7 @@ module _ (k : Opened) (l : List ℕ) (out : List ℤ) where
         listing-gives k.s (summed k) l out (own_refusal k) (own_none k _ ((opened-gives k 0).shown e h (one-le-pow _ 3 (omega arith))));
   }
 
-module _ (κs : Lfts 2) (k : Opened) (products : Bor (List ℕ)) (out out' : Bor (List ℤ)) (o : Numbered)
+module _ (κs : Lfts 2) (k : Opened) (products : Bor (List ℕ)) (out out' : MutBor (List ℤ)) (o : Numbered)
     (called : ask-all.Learnt κs (k, (products, (out, tt))) o (k, (products, (out', tt)))) where
   -- WISH 5 on an opened card, whatever it holds
   pub opened_list_gives : AskAllGives k products.now out.now o out'.now

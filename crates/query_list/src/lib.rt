@@ -1,5 +1,7 @@
 // A list of products in one go (document 02, wish 5): as many panel numbers, in the list's order, written to a lent slice. The card is checked first,
 // then the slice, then the products.
+#![tactic(auto)]
+
 ghost use Rattle.std.specs.Prelude.{◌≡◌, ◌^◌, ◌≤◌, ◌<◌, length};
 ghost use Rattle.refusals.specs.Limits.{most_polynomials, most_points};
 ghost use Rattle.signs.specs.Lists.{Below};
@@ -12,7 +14,7 @@ use sign_counts::panel_number;
 use signs::bound;
 
 // What a call answers: that the numbers are written, or the number of the cause why none is; for a bad product also its position in the list, from 0.
-#[derive(Drop)]
+#[derive(Clone, Copy)]
 pub enum Numbered {
     Written,
     Refused(u16),

@@ -1,5 +1,7 @@
 // The numbers of document 01, each in one place: those that refuse ("Cause, and what the caller gets"; from 16 on, document 02) and the limits of a card
 // and of a run.
+#![tactic(auto)]
+
 ghost use Rattle.std.specs.Prelude.{◌≡◌};
 ghost use Rattle.refusals.specs.Numbers.{is_among, card_numbers};
 

@@ -33,8 +33,10 @@ pub record RoundEdges : Type 0 where
   pub example : round_rows 2 (at 4 2 ∷ at 8 1 ∷ []) (negsuc 0 ∷ pos 1 ∷ pos 3 ∷ pos 1 ∷ []) ≡ some (at 13 1 ∷ at 22 1 ∷ at 26 1 ∷ [])
 
 pub round_edges : RoundEdges
-unfolding round_rows proper_rows is_rising is_below all_positive sum patterns counts by_moments judged all_split splits extended_rows extended_by
-    row_if solver_of within_limit sum_abs values solve combine by_sign glue known_sum known_difference known1 known2 block queries all_even half ◌⊕◌
+unfolding round_rows proper_rows is_rising is_below all_positive sum patterns counts by_moments judged all_split splits extended_rows
+    extended_by
+    row_if solver_of within_limit sum_abs values solve combine by_sign glue known_sum known_difference known1 known2 block queries all_even
+    half ◌⊕◌
     ◌⊖◌ lookup weight_of fold tally adapted times shift restrictions keep up_to signs_of
 round_edges =
     record {

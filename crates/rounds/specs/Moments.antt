@@ -9,7 +9,8 @@
 --   extended_rows i R es gs        == the rows of R extended by each of the three signs
 --   judged i R es gs              == the rows of round i + 1 from es and gs; none where a count is no whole number, 0 or more
 --   by_moments i R₀ ws             == the rows of round i + 1: es solve for the first half of its answers, gs for the second
-use Rattle.std.specs.Prelude.{Bool, true, false, cond, ◌&&◌, List, [], ◌∷◌, ◌++◌, ℕ, ◌+◌, ◌*◌, ◌^◌, ◌/◌, ◌%◌, eqb, ℤ, pos, nat_abs, ◌+ℤ◌, ◌-ℤ◌, length, take, drop}
+use Rattle.std.specs.Prelude.{Bool, true, false, cond, ◌&&◌, List, [], ◌∷◌, ◌++◌, ℕ, ◌+◌, ◌*◌, ◌^◌, ◌/◌, ◌%◌, eqb, ℤ, pos, nat_abs, ◌+ℤ◌}
+use Rattle.std.specs.Prelude.{◌-ℤ◌, length, take, drop}
 use Rattle.std.proofs.Math.Option.{Option, some, none}
 use Rattle.std.specs.Int.Signed.{le_z}
 use Rattle.solutions.specs.Solver.{and_then, solver_of}
@@ -40,7 +41,8 @@ extended_by c f (r ∷ R) (e ∷ es) [] = []
 extended_by c f (r ∷ R) (e ∷ es) (g ∷ gs) = row_if (r.pattern + c) (f r.count e g) ++ extended_by c f R es gs
 
 unfoldable pub extended_rows : ℕ → List Row → List ℤ → List ℤ → List Row
-extended_rows i R es gs = extended_by 0 with_zero R es gs ++ (extended_by (3 ^ i) with_plus R es gs ++ extended_by (2 * 3 ^ i) with_minus R es gs)
+extended_rows i R es gs = extended_by 0 with_zero R es gs ++
+    (extended_by (3 ^ i) with_plus R es gs ++ extended_by (2 * 3 ^ i) with_minus R es gs)
 
 unfoldable pub judged : ℕ → List Row → List ℤ → List ℤ → Option (List Row)
 judged i R es gs = cond (all_split R es gs) (some (extended_rows i R es gs)) none

@@ -1,6 +1,6 @@
 -- The end of a round as a call makes it, whatever rows and answers it is given.
 --
---   proper_rows i R   == the test that R are rows of P1 .. Pi as a round leaves them: patterns rising and below 3^i, counts above 0 that add
+-- proper_rows i R   == the test that R are rows of P1 .. Pi as a round leaves them: patterns rising and below 3^i, counts above 0 that add
 --                       up to at most 64
 --   round_rows i R ws == the rows after round i + 1, from the rows R before it and its answers ws; none where R are no such rows, where ws
 --                       are not twice as many, or where no counts fit (10)

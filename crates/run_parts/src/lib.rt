@@ -2,6 +2,8 @@
 // answer. Lists stand at the front of arrays as the record has them.
 //
 // The functions with a `requires` are for the crate above, whose calls show it.
+#![tactic(auto)]
+
 ghost use Rattle.std.specs.Prelude.{◌≡◌, ◌&&◌, [], ◌∷◌, ◌++◌, ◌+◌, ◌*◌, ◌^◌, ◌≤◌, ◌<◌, leb, nat_abs, length, take, drop};
 ghost use Rattle.refusals.specs.Limits.{most_polynomials, most_points};
 ghost use Rattle.signs.specs.Lists.{Below, is_below};

@@ -43,7 +43,8 @@ by_rules c z c' x g = (ap (λ (p : State × Step). p.0) g.by_rules, ap (λ (p : 
 pub by_rules_prop : (c : Run) (z : ℤ) (c' : Run) (x : Step) → IsProp (ByRules c z c' x)
 by_rules_prop c z c' x = ×_prop (state-set _ _) (step_set _ _)
 
-pub start_by_rules : (s : ℕ) (c : Run) (x : Step) → StartGives s c x → 1 ≤ s → s ≤ most_polynomials → (state_of c ≡ start_of s) × (x ≡ ask 0)
+pub start_by_rules : (s : ℕ) (c : Run) (x : Step) → StartGives s c x → 1 ≤ s → s ≤ most_polynomials → (state_of c ≡ start_of s)
+    × (x ≡ ask 0)
 unfolding started_of
 start_by_rules s c x g h m =
     let e : ◌≡◌ {A = State × Step} (state_of c, x)

@@ -131,7 +131,8 @@ module _ (h : Head) (i points rows : ℕ) (P C Q Q' : List ℕ) (A : List ℤ) (
 
 -- where a round ends with rows, the numbers before it are all that counts
 pub ends-alike : (h : Head) (P C Q : List ℕ) (A : List ℤ) (P' C' Q' : List ℕ) (A' : List ℤ) (i : ℕ) (R : List Row)
-    → end_round round_rows (running_state (run_of h P C Q A)) i (some R) ≡ end_round round_rows (running_state (run_of h P' C' Q' A')) i (some R)
+    → end_round round_rows (running_state (run_of h P C Q A)) i (some R) ≡ end_round round_rows (running_state (run_of h P' C' Q' A')) i
+    (some R)
 ends-alike h P C Q A P' C' Q' A' i R = go (eqb (suc i) h.polynomials)
   where
     go : (b : Bool) → ended round_rows (running_state (run_of h P C Q A)) (suc i) h.n R b

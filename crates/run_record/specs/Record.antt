@@ -13,7 +13,7 @@
 --   state_in f run               == what the record stands for in the phase f: closed, it holds no rows, and only while the run goes on
 --                                  products and answers
 --   running_state run            == what the record stands for where its run goes on
---   run_phase run                == the phase that the record stands for: of a run that goes on or is done where it passes that test, and of
+-- run_phase run                == the phase that the record stands for: of a run that goes on or is done where it passes that test, and of
 --                                  a closed run where it passes neither, whatever it holds
 --   state_of run                 == what the record stands for, in that phase: its numbers, rows, products and answers as they stand, also
 --                                  where no start and no answer could have left them

@@ -8,6 +8,8 @@
 // 3^(round − 1), and counts of 0 or of more than 64 together, give 10.
 //
 // `answer_parts` requires the lengths of the arrays: it is for the crates above.
+#![tactic(auto)]
+
 ghost use Rattle.std.specs.Prelude.{◌≡◌, true, false, List, [], ℕ, suc, ◌+◌, ◌*◌, ◌-◌, ◌^◌, ◌≤◌, ◌<◌, ℤ, nat_abs, length, take};
 ghost use Rattle.std.proofs.Math.Option.{some};
 ghost use Rattle.refusals.specs.Limits.{most_polynomials, most_points};
@@ -35,7 +37,7 @@ pub const DONE: u8 = 1;
 pub const CLOSED: u8 = 2;
 
 // What an answer gives: the next product to ask, done, or a refusal number. 8, 9 and 10 close the run; 7 leaves it was.
-#[derive(Drop)]
+#[derive(Clone, Copy)]
 pub enum Step {
     Ask(Product),
     Done,
@@ -45,7 +47,7 @@ pub enum Step {
 // The run record. Of `patterns`, `counts` and `products`, the adapted list, the first `rows` count, and of `answers` the first `answered`. Answers fit
 // 8 bits: one outside −n .. n, n at most 64, is refused and not kept.
 #[repr(C)]
-#[derive(Drop)]
+#[derive(Clone, Copy)]
 pub struct Run {
     pub polynomials: usize,
     pub asked: usize,
@@ -61,7 +63,7 @@ pub struct Run {
 }
 
 // The numbers of a record, without its arrays.
-#[derive(Drop)]
+#[derive(Clone, Copy)]
 pub struct Head {
     pub polynomials: usize,
     pub asked: usize,
@@ -73,7 +75,7 @@ pub struct Head {
 }
 
 // The numbers after a call, and the step.
-#[derive(Drop)]
+#[derive(Clone, Copy)]
 pub struct Turn {
     pub head: Head,
     pub step: Step,

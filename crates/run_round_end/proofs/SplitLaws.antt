@@ -40,7 +40,8 @@ module _ (d : ℕ) (e g : ℤ) where
       let c : le_z (pos 0) (g -ℤ e) ≡ false = omega (int, dif g e) in
       rw (a, b, c) refl
 
-  pub splits-inside : lt_z (pos d) g ≡ false → lt_z (g +ℤ e) (pos 0) ≡ false → lt_z g e ≡ false → splits d e g ≡ eqb (nat_abs (g +ℤ e) % 2) 0
+  pub splits-inside : lt_z (pos d) g ≡ false → lt_z (g +ℤ e) (pos 0) ≡ false → lt_z g e ≡ false → splits d e g
+      ≡ eqb (nat_abs (g +ℤ e) % 2) 0
   unfolding splits
   splits-inside s t u =
       let a : le_z g (pos d) ≡ true = omega int in

@@ -151,7 +151,8 @@ module _ (P C : List ℕ) (es gs : List ℤ) (j : ℕ) (h : j < length P) (hC : 
       refl
 
   pub splits-now : fair_left P C es gs j ≡ true → splits (get_or C j 0) (get_or es j (pos 0)) (get_or gs j (pos 0)) ≡ true
-  splits-now t = both_left (splits (get_or C j 0) (get_or es j (pos 0)) (get_or gs j (pos 0))) (fair_left P C es gs (j + 1)) (sym splits_next ∙ t)
+  splits-now t = both_left (splits (get_or C j 0) (get_or es j (pos 0)) (get_or gs j (pos 0))) (fair_left P C es gs (j + 1))
+      (sym splits_next ∙ t)
 
   pub splits_later : fair_left P C es gs j ≡ true → fair_left P C es gs (j + 1) ≡ true
   splits_later t =

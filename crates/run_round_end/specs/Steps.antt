@@ -1,7 +1,7 @@
 -- The steps of a round's end as the code takes them.
 --
 --   with_sign t           == the count with the sign of the digit t: `with_zero` for 0, `with_plus` for 1, `with_minus` for 2
---   sign_rows w t R es gs == the rows of R extended by the sign of the digit t, those with a count above 0; w is the weight of the new digit
+-- sign_rows w t R es gs == the rows of R extended by the sign of the digit t, those with a count above 0; w is the weight of the new digit
 --   proper_counts C       == the test that the counts C are above 0 and add up to at most 64
 use Rattle.std.specs.Prelude.{Bool, ◌&&◌, List, ℕ, zero, suc, ◌*◌, leb, ℤ}
 use Rattle.refusals.specs.Limits.{most_points}

@@ -2,6 +2,8 @@
 // slices, of patterns and of counts. What the rows are is defined in `rounds`.
 //
 // The functions with a `requires` are for this crate and those above it, whose calls show it.
+#![tactic(auto)]
+
 ghost use Rattle.std.specs.Prelude.{◌≡◌, true, ◌++◌, ◌+◌, ◌≤◌, ◌<◌, nat_abs, length};
 ghost use Rattle.std.proofs.lemmas.List.Edits.{sets};
 ghost use Rattle.refusals.specs.Limits.{most_polynomials, most_points};
@@ -18,7 +20,7 @@ use signs::{below, power, rising};
 use solver_recursion::solve_pair;
 
 // The number of rows after a round, or that no counts fit its answers.
-#[derive(Drop)]
+#[derive(Clone, Copy)]
 pub enum Next {
     Rows(usize),
     None,

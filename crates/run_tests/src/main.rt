@@ -1,10 +1,14 @@
 // Plays runs from files and compares what each call of `determination` gives with what the files say, which tools/run_cases.py worked out by
 // another route. A file's layout is written there.
+#![tactic(auto)]
+
 ghost use Rattle.std.specs.Prelude.{◌≡◌, ◌+◌, ◌*◌, ◌<◌, ◌≤◌, length};
 
 use determination::{Answered, Copied, Fetched};
-use libc::STDOUT_FILENO;
 use run_record::{Run, Step};
+use std::env::Env;
+use std::io;
+use std::rt::Files;
 use test_input::{byte, pair};
 
 // The first byte of an item. Up to LONGEST_SHORT it is an answer, with SHORT_ZERO added; above COPY, the item is an answer of eight bytes.
@@ -232,7 +236,7 @@ fn size(item: &[u8]) -> usize
 }
 
 // The record after a call, and what the call gave.
-#[derive(Drop)]
+#[derive(Clone, Copy)]
 struct Played {
     run: Run,
     result: usize,
@@ -281,48 +285,46 @@ fn play_all(file: &[u8], tally: &mut [usize; KINDS])
 }
 
 // Plays the file that argument i names.
-fn play_argument(i: usize, tally: &mut [usize; KINDS]) {
-    let mut file = io::large_buffer();
-    let n = test_input::read_argument(i, &mut file);
+fn play_argument(rt: &(impl Env + Files + Eprint), i: usize, tally: &mut [usize; KINDS]) {
+    let mut file = [0u8; test_input::ROOM];
+    let n = test_input::read_argument(rt, i, &mut file);
     play_all(&file[..n], tally);
 }
 
-fn print_count(name: &[u8], n: usize) {
-    io::write_all(STDOUT_FILENO, name);
-    io::print_decimal(STDOUT_FILENO, n as u64);
-    io::write_all(STDOUT_FILENO, b"\n");
+fn print_count(rt: &impl Print, name: &str, n: usize) -> io::Result<()> {
+    println!(rt; "{name} {n}")
 }
 
-fn print_counts(tally: &[usize; KINDS]) {
-    print_count(b"runs ", tally[RUNS]);
-    print_count(b"answers ", tally[ANSWERS]);
-    print_count(b"fetches ", tally[FETCHES]);
-    print_count(b"copies ", tally[COPIES]);
-    print_count(b"done ", tally[ENDED_DONE]);
-    print_count(b"differ ", tally[DIFFERENT]);
+fn print_counts(rt: &impl Print, tally: &[usize; KINDS]) -> io::Result<()> {
+    print_count(rt, "runs", tally[RUNS])?;
+    print_count(rt, "answers", tally[ANSWERS])?;
+    print_count(rt, "fetches", tally[FETCHES])?;
+    print_count(rt, "copies", tally[COPIES])?;
+    print_count(rt, "done", tally[ENDED_DONE])?;
+    print_count(rt, "differ", tally[DIFFERENT])
 }
 
-fn print_refusal(k: usize, n: usize) {
+fn print_refusal(rt: &impl Print, k: usize, n: usize) -> io::Result<()> {
     if 0 < n {
-        io::write_all(STDOUT_FILENO, b"refused by ");
-        io::print_decimal(STDOUT_FILENO, k as u64);
-        print_count(b": ", n);
+        println!(rt; "refused by {k}: {n}")?;
     }
+    Ok(())
 }
 
-fn print_refusals(tally: &[usize; KINDS]) {
+fn print_refusals(rt: &impl Print, tally: &[usize; KINDS]) -> io::Result<()> {
     let mut k = 0;
     while k < REFUSALS {
-        print_refusal(k, tally[k]);
+        print_refusal(rt, k, tally[k])?;
         k += 1;
     }
+    Ok(())
 }
 
-fn main() {
+fn main(rt: HostRuntime) -> io::Result<()> {
     let mut tally = [0usize; KINDS];
-    play_argument(1, &mut tally);
-    play_argument(2, &mut tally);
-    play_argument(3, &mut tally);
-    print_counts(&tally);
-    print_refusals(&tally);
+    play_argument(&rt, 1, &mut tally);
+    play_argument(&rt, 2, &mut tally);
+    play_argument(&rt, 3, &mut tally);
+    print_counts(&rt, &tally)?;
+    print_refusals(&rt, &tally)
 }

@@ -70,9 +70,12 @@ pub record RunEdges : Type 0 where
       (kept 7 (9 ∷ []) (8 ∷ [])) ∷ [])
 
 pub run_edges : RunEdges
-unfolding answer_of round_product round_rows proper_rows is_rising is_below all_positive sum patterns counts by_moments judged all_split splits
-    extended_rows extended_by row_if solver_of within_limit sum_abs values solve combine by_sign glue known_sum known_difference known1 known2 block
-    queries all_even half ◌⊕◌ ◌⊖◌ lookup weight_of fold tally adapted times shift restrictions keep up_to signs_of fetch_of copy_of fetch_rule
+unfolding answer_of round_product round_rows proper_rows is_rising is_below all_positive sum patterns counts by_moments judged all_split
+    splits
+    extended_rows extended_by row_if solver_of within_limit sum_abs values solve combine by_sign glue known_sum known_difference known1
+    known2 block
+    queries all_even half ◌⊕◌ ◌⊖◌ lookup weight_of fold tally adapted times shift restrictions keep up_to signs_of fetch_of copy_of
+    fetch_rule
     copy_rule events
 run_edges =
     record {

@@ -304,7 +304,8 @@ cause-first : (s : ℕ) (z : ℤ) → (z <ℤ pos 0) ⊎ (pos 64 <ℤ z) → Cau
 unfolding SomeOutside
 cause-first s z h = by_first refl (z, [], refl, h) (λ (n, l, e, o). let x : l ≡ [] = cc in subst (SomeOutside n) x o)
 
-first-after : (N : ℕ → List Row → List ℤ → Option (List Row)) (s : ℕ) (z : ℤ) → 1 ≤ s → After s [] (0 ∷ []) z (first_answer N (start_of s) z)
+first-after : (N : ℕ → List Row → List ℤ → Option (List Row)) (s : ℕ) (z : ℤ) → 1 ≤ s → After s [] (0 ∷ []) z
+    (first_answer N (start_of s) z)
 first-after N s (negsuc n) h =
     close-after N s (start_of s) [] (0 ∷ []) (negsuc n) refl refl 0 (omega arith) (omega arith) 8 refl (inl refl)
     (cause-first s (negsuc n) (inl (omega int)))

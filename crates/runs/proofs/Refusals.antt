@@ -188,7 +188,8 @@ unfolding copy_rule
 copy_rule_15 running R a b = (λ e. let x : ◌≡◌ {A = ℕ} 7 15 = cc in absurd (omega arith), λ h. absurd (running_not_finished h.0))
 copy_rule_15 finished R a b = (λ e. (refl, go (leb (length R) (length a)) refl (leb (length R) (length b)) refl e), λ h. back h.1)
   where
-    go : (x : Bool) → leb (length R) (length a) ≡ x → (y : Bool) → leb (length R) (length b) ≡ y → (outcome R a b x y).result ≡ not_copied 15
+    go : (x : Bool) → leb (length R) (length a) ≡ x → (y : Bool) → leb (length R) (length b) ≡ y → (outcome R a b x y).result
+        ≡ not_copied 15
         → (length a < length R) ⊎ (length b < length R)
     go true t true u e = let x : ◌≡◌ {A = ℕ} 0 1 = cc in absurd (omega arith)
     go true t false u e = inr (leb-false (length R) (length b) u)

@@ -25,7 +25,8 @@ module _ (N : ℕ → List Row → List ℤ → Option (List Row)) (r : State) w
   first_above (pos n) g h = rw (lt-leb n 64 h) refl
   first_above (negsuc n) g h = absurd (omega (int, g))
 
-  pub first_some : (z : ℤ) → pos 0 ≤ℤ z → nat_abs z ≤ 64 → first_answer N r z ≡ ended N r 0 (nat_abs z) (row_if 0 (nat_abs z)) (eqb (nat_abs z) 0)
+  pub first_some : (z : ℤ) → pos 0 ≤ℤ z → nat_abs z ≤ 64 → first_answer N r z ≡ ended N r 0 (nat_abs z) (row_if 0 (nat_abs z))
+      (eqb (nat_abs z) 0)
   first_some (pos n) g h = rw (le-leb n 64 h) refl
   first_some (negsuc n) g h = absurd (omega (int, g))
 

@@ -201,7 +201,10 @@ fetch-served : (f : Phase) (R K : List Row) (p : ℕ) (t : List Event) → (f �
     → Served f K (fetched p (fetch_rule f R p) ∷ t)
 unfolding Served fetch_rule
 fetch-served running R K p t h S = (refl, S)
-fetch-served finished R K p t h S = (subst (λ (X : List Row). FetchedFrom K p (fetch_rule finished X p)) (sym (h refl)) (fetch_right K p), S)
+fetch-served finished R K p t h S = (
+  subst (λ (X : List Row). FetchedFrom K p (fetch_rule finished X p)) (sym (h refl)) (fetch_right K p),
+  S,
+)
 fetch-served closed R K p t h S = (refl, S)
 
 copy-served : (f : Phase) (R K : List Row) (a b : List ℕ) (t : List Event) → (f ≡ finished → R ≡ K) → Served f K t

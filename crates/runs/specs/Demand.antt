@@ -220,7 +220,8 @@ pub record Claim (s : ℕ) (x : Step) (ps : List ℕ) (zs : List ℤ) (f : Phase
   pub open_while : SomeFits s ps zs → f ≢ closed
   -- "once none fits it is closed, at the latest at the end of that round": where none fits the first k answers and a round ends with the
   -- first m of them, k ≤ m, the run is closed, and no answer was taken after the m-th
-  pub closed_by_number : (k m i : ℕ) (qs : List ℕ) → k ≤ m → m ≤ length zs → i ≤ s → (SomeFits s ps (take k zs) → ⊥) → AtEnd i (take m zs) qs
+  pub closed_by_number : (k m i : ℕ) (qs : List ℕ) → k ≤ m → m ≤ length zs → i ≤ s → (SomeFits s ps (take k zs) → ⊥)
+      → AtEnd i (take m zs) qs
       → (f ≡ closed) × (length zs ≡ m)
   -- "first answer below 0 or above 64": 8, and for nothing else
   pub closed_by_8 : (closed_by running t ≡ 8 ∷ []) ↔ FirstOut zs

@@ -13,7 +13,8 @@
 --   answer_of N r z     == the record after the answer z, and the step
 --   fetch_of r p        == the row at position p
 --   copy_of r a b       == all rows copied to the slices a (patterns) and b (counts)
-use Rattle.std.specs.Prelude.{Bool, true, false, cond, List, [], ◌∷◌, ◌++◌, map, ℕ, zero, suc, ◌+◌, ◌*◌, ◌-◌, ◌^◌, eqb, leb, ltb, ℤ, pos, negsuc, nat_abs, length, get_or, drop}
+use Rattle.std.specs.Prelude.{Bool, true, false, cond, List, [], ◌∷◌, ◌++◌, map, ℕ, zero, suc, ◌+◌, ◌*◌, ◌-◌, ◌^◌, eqb, leb, ltb, ℤ, pos}
+use Rattle.std.specs.Prelude.{negsuc, nat_abs, length, get_or, drop}
 use Rattle.std.proofs.Math.Option.{Option, some, none}
 use Rattle.refusals.specs.Numbers.{late, bad_first, bad_later, no_counts, past_last, too_short}
 use Rattle.refusals.specs.Limits.{most_points}

@@ -1,9 +1,11 @@
 // How many of some whole numbers are positive, negative and 0, and the panel number, which is the first less the second (document 02, wish 4).
+#![tactic(auto)]
+
 ghost use Rattle.std.specs.Prelude.{◌≡◌};
 ghost use Rattle.sign_counts.specs.Counts.{panel_number};
 
 // At how many points a product is positive, negative and 0.
-#[derive(Drop)]
+#[derive(Clone, Copy)]
 pub struct SignCounts {
     pub positive: u16,
     pub negative: u16,

@@ -121,7 +121,8 @@ restrictions_holds k i L q h = go (dec_lt q (3 ^ i)) (bool_cases (leb k (signs_o
     go : Dec (q < 3 ^ i) → (leb k (signs_of i L q) ≡ true) ⊎ (leb k (signs_of i L q) ≡ false) → (q < 3 ^ i) × (k ≤ signs_of i L q)
     go (yes b) (inl t) = (b, leb→le k (signs_of i L q) (T_of t))
     go d (inr t) = absurd (let z : 0 < 0 = (rw t at h') in omega arith)
-    go (no b) (inl t) = absurd (let z : 0 < times q (up_to (3 ^ i)) = (rw t at h') in omega (arith, times-up_to-out q (3 ^ i) (omega arith)))
+    go (no b) (inl t) = absurd (let z : 0 < times q (up_to (3 ^ i)) = (rw t at h') in omega
+        (arith, times-up_to-out q (3 ^ i) (omega arith)))
 
 -- what stands in a shifted list is at least c, and stood in the list c lower
 pub shift_holds : (c q : ℕ) (l : List ℕ) → 0 < times q (shift c l) → (a : ℕ) × (q ≡ a + c) × (0 < times a l)

@@ -109,7 +109,8 @@ rises_at k l h q =
 pub rising_next : (k : ℕ) (l : List ℕ) → 1 ≤ k → k < length l → get_or l (k - 1) 0 < get_or l k 0
     → is_rising l ≡ is_rising (drop (k - 1) l) → is_rising l ≡ is_rising (drop (k + 1 - 1) l)
 rising_next k l h q s e =
-    e ∙ rises_at k l h q ∙ and_true (ltb (get_or l (k - 1) 0) (get_or l k 0)) (is_rising (drop k l)) (lt-ltb (get_or l (k - 1) 0) (get_or l k 0) s)
+    e ∙ rises_at k l h q ∙ and_true (ltb (get_or l (k - 1) 0) (get_or l k 0)) (is_rising (drop k l))
+    (lt-ltb (get_or l (k - 1) 0) (get_or l k 0) s)
     ∙ ap (λ (n : ℕ). is_rising (drop n l)) (same k)
   where
     same : (k : ℕ) → k ≡ k + 1 - 1

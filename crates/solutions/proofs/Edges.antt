@@ -18,6 +18,7 @@ pub solver_edges :
     × (solver_of 1 (1 ∷ 2 ∷ []) (pos 1 ∷ pos 0 ∷ []) ≡ none)
     × (solver_of 1 (1 ∷ 2 ∷ []) (pos 0 ∷ pos 64 ∷ []) ≡ some (pos 32 ∷ negsuc 31 ∷ []))
     × (solver_of 1 (1 ∷ 2 ∷ []) (pos 0 ∷ pos 66 ∷ []) ≡ none)
-unfolding solver_of within_limit sum_abs weight_of values solve combine by_sign glue known_sum known_difference known1 known2 block queries all_even
+unfolding solver_of within_limit sum_abs weight_of values solve combine by_sign glue known_sum known_difference known1 known2 block queries
+    all_even
     half ◌⊕◌ ◌⊖◌ lookup fold tally adapted times shift restrictions keep up_to signs_of
 solver_edges = (refl, refl, refl, refl, refl)

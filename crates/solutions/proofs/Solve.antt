@@ -554,7 +554,8 @@ module _ (i : ℕ) (L : List ℕ) (d : Weight) where
   combine_right : (u : Weight) → Right i (restrictions 1 i L) (block i 0 d) (some u) → (x : Weight)
       → Right i (restrictions 2 i L) (D₁ u) (some x)
       → (y : Weight) → Right i (restrictions 3 i L) (D₂ u x) (some y) → Right (suc i) L d (combine i u (V⁺ u x) (T⁺ u x y))
-  unfolding combine block queries known_difference known_sum ◌⊕◌ ◌⊖◌ half by_sign kp kn vdp vdn Vp Vn lp ln tdp tdn Tp Tn doubled w₀ w₀' w₁ w₁'
+  unfolding combine block queries known_difference known_sum ◌⊕◌ ◌⊖◌ half by_sign kp kn vdp vdn Vp Vn lp ln tdp tdn Tp Tn doubled w₀ w₀' w₁
+      w₁'
       w₂ w₂' p⁺ n⁺
   combine_right u SU x SV y ST = go (all_even (T⁺ u x y ⊕ V⁺ u x) (3 ^ i)) refl
     where

@@ -131,7 +131,8 @@ module _ (s : ℕ) (L : List ℕ) (ds : List ℤ) (P : Posed s L ds) where
           (record { one_each = values_length w L; give = give_of w r; small = leb→le (sum_abs (values w L)) limit (T_of t) })
       go false t k = let x : ◌≡◌ {A = ℕ} 0 1 = cc in absurd (omega arith)
 
-  to_result : (o : Option Weight) → Right s L D o → (ws : List ℤ) → Solution s L ds ws → and_then o (λ w. within_limit (values w L)) ≡ some ws
+  to_result : (o : Option Weight) → Right s L D o → (ws : List ℤ) → Solution s L ds ws → and_then o (λ w. within_limit (values w L))
+      ≡ some ws
   unfolding within_limit
   to_result none r ws S = absurd (r _ _ (solves_of ws S.give))
   to_result (some w) r ws S =

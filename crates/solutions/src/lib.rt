@@ -1,5 +1,7 @@
 // Questions to the solver (document 01, "Adapted lists"): which are well posed, and which have a solution. The definitions are in specs/, and the theorem
 // that `solver_of` finds the solution wherever there is one, and that there is never a second, in proofs/.
+#![tactic(auto)]
+
 ghost use Rattle.std.specs.Prelude.{◌≡◌, ◌≤◌};
 ghost use Rattle.refusals.specs.Limits.{most_polynomials};
 ghost use Rattle.solutions.specs.Posing.{is_list};

@@ -14,7 +14,7 @@ use lib.Dec.{eqb, leb}
 use lib.IntN.{ℤ}
 use lib.ListN.{length, drop}
 use contract.Lifetimes.{Lfts}
-use denote.Ref.{Bor}
+use denote.Ref.{Bor, MutBor}
 use Rattle.refusals.specs.Limits.{most_polynomials, most_points}
 use Rattle.refusals.specs.Numbers.{Among, is_among}
 use Rattle.signs.specs.Lists.{is_below, is_rising}
@@ -229,7 +229,7 @@ pub solve_claims : (s : ℕ) (L : List ℕ) (xs out : List ℤ) → SolverClaim 
 solve_claims s L xs out = claim_of s L xs out (solve_of s L xs out).0 (solve_of s L xs out).1 (case_of s L xs out)
 
 -- every call of `solve`, on any arguments
-pub solver_claim : (κs : Lfts 3) (s : ℕ) (patterns : Bor (List ℕ)) (numbers out out' : Bor (List ℤ)) (r : Solved)
+pub solver_claim : (κs : Lfts 3) (s : ℕ) (patterns : Bor (List ℕ)) (numbers : Bor (List ℤ)) (out out' : MutBor (List ℤ)) (r : Solved)
     → solve.Learnt κs (s, (patterns, (numbers, (out, tt)))) r (s, (patterns, (numbers, (out', tt))))
     → SolverClaim s patterns.now numbers.now out.now r out'.now
 solver_claim κs s patterns numbers out out' r k = rw (k.0, k.1) (solve_claims s patterns.now numbers.now out.now)

@@ -1,5 +1,7 @@
 // The solver (document 01, "Adapted lists"): the whole numbers on a list of patterns whose queries on its adapted list are given. The recursion is in
 // `solver_recursion`.
+#![tactic(auto)]
+
 ghost use Rattle.std.specs.Prelude.{◌≡◌, ◌≤◌, length};
 ghost use Rattle.refusals.specs.Limits.{most_polynomials, most_points};
 ghost use Rattle.solutions.specs.Solution.{Posed};
@@ -12,7 +14,7 @@ use solver_moments::{copy_small, copy_wide};
 use solver_recursion::solve_pair;
 
 // What a call answers: that the numbers are found, or document 01's number of the cause why they are not.
-#[derive(Drop)]
+#[derive(Clone, Copy)]
 pub enum Solved {
     Found,
     Refused(u16),

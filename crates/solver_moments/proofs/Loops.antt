@@ -188,14 +188,16 @@ doubled_at w L at d e g k =
 module _ (w : ℕ) (L at : List ℕ) (d e g : List ℤ) where
   pub doubled_small : Within 256 d → Within 256 e → Within 256 g → (k : ℕ) → nat_abs (doubled_at w L at d e g k) ≤ 1024
   doubled_small wd we wg k =
-      abs_doubled (get_or L k 0 / w) (get_or d (get_or at k 0) (pos 0)) (get_or e (get_or at k 0) (pos 0)) (get_or g (get_or at k 0) (pos 0)) 256
+      abs_doubled (get_or L k 0 / w) (get_or d (get_or at k 0) (pos 0)) (get_or e (get_or at k 0) (pos 0))
+      (get_or g (get_or at k 0) (pos 0)) 256
       (wd.at (get_or at k 0)) (we.at (get_or at k 0)) (wg.at (get_or at k 0))
 
   -- what numbers that fit say of the doubles
   fitting_doubled : (ws : List ℤ) → Fitting w L at d e g ws → (k : ℕ) → k < length L
       → get_or ws k (pos 0) +ℤ get_or ws k (pos 0) ≡ doubled_at w L at d e g k
   fitting_doubled ws F k h =
-      number_doubled (get_or L k 0 / w) (get_or d (get_or at k 0) (pos 0)) (get_or e (get_or at k 0) (pos 0)) (get_or g (get_or at k 0) (pos 0))
+      number_doubled (get_or L k 0 / w) (get_or d (get_or at k 0) (pos 0)) (get_or e (get_or at k 0) (pos 0))
+      (get_or g (get_or at k 0) (pos 0))
       (get_or ws k (pos 0)) (F.numbers k h)
 
   fitting_even : (ws : List ℤ) → Fitting w L at d e g ws → (k : ℕ) → k < length L → is_odd (doubled_at w L at d e g k) ≡ true → ⊥

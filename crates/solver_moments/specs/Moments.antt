@@ -21,7 +21,8 @@
 --   Fitting w L at d e g ws     == ws are the whole numbers of the patterns L, one each, and their absolute values add up to at most 64
 --   CombinedBoth w L at d e g d₂ e₂ g₂ u v b == b says whether the patterns L have such numbers from the moments d, e, g and from d₂, e₂,
 --                                  g₂; if so, u and v hold them
-use Rattle.std.specs.Prelude.{◌≡◌, Bool, true, false, cond, not, List, [], ◌∷◌, ℕ, zero, suc, ◌+◌, ◌*◌, ◌/◌, ◌%◌, ◌<◌, ◌≤◌, eqb, leb, ℤ, pos, ◌+ℤ◌, ◌-ℤ◌, length, get_or, set}
+use Rattle.std.specs.Prelude.{◌≡◌, Bool, true, false, cond, not, List, [], ◌∷◌, ℕ, zero, suc, ◌+◌, ◌*◌, ◌/◌, ◌%◌, ◌<◌, ◌≤◌, eqb, leb, ℤ}
+use Rattle.std.specs.Prelude.{pos, ◌+ℤ◌, ◌-ℤ◌, length, get_or, set}
 use Rattle.refusals.specs.Limits.{most_points}
 use Rattle.integers.specs.Sums.{sum_abs, Within}
 use Rattle.integers.specs.Half.{is_even}

@@ -1,5 +1,7 @@
 // The moments of patterns of i polynomials over the signs of the next one: those that are known, and the numbers that they give.
 // The functions are for the solver, whose calls show what they require; the definitions are in specs/.
+#![tactic(auto)]
+
 ghost use Rattle.std.specs.Prelude.{◌≡◌, cond, ◌||◌, ◌++◌, ◌+◌, ◌*◌, ◌/◌, ◌≤◌, ◌<◌, leb, pos, nat_abs, ◌+ℤ◌, length, get_or, drop};
 ghost use Rattle.std.specs.Int.Signed.{shr_z};
 ghost use Rattle.refusals.specs.Limits.{most_points};

@@ -37,7 +37,8 @@ part_at f (σ ∷ L) (w ∷ c) (suc j) r e h =
     part_later f σ L w c (get_or L j 0) (λ q. omega (arith, r.0 (get_or L j 0) (stands_at L j (omega arith))))
     ∙ part_at f L c j r.1 (omega arith) (omega arith)
 
-values-at : (w : Weight) (L : List ℕ) (k : ℕ) → k < length L → get_or (values w L) k (pos 0) ≡ sub_ℕ (w.up (get_or L k 0)) (w.dn (get_or L k 0))
+values-at : (w : Weight) (L : List ℕ) (k : ℕ) → k < length L → get_or (values w L) k (pos 0) ≡ sub_ℕ (w.up (get_or L k 0))
+    (w.dn (get_or L k 0))
 unfolding values
 values-at w [] k h = absurd (omega arith)
 values-at w (q ∷ L) zero h = refl

@@ -515,7 +515,8 @@ module _ (i : ℕ) (L mark at : List ℕ) (x : List ℤ) (P : Posed (suc i) L x)
           bal_g₀ j h =
               let q = get_or L₁ j 0 in
               rw (K₃.at j (omega (arith, Q.marked)))
-              (third_known (times q L) (times (q + 3 ^ i) L) (times (q + 2 * 3 ^ i) L) (get_or mark j 0) (get_or d j (pos 0)) (get_or e j (pos 0))
+              (third_known (times q L) (times (q + 3 ^ i) L) (times (q + 2 * 3 ^ i) L) (get_or mark j 0) (get_or d j (pos 0))
+              (get_or e j (pos 0))
               (u q) (u' q) (V₊ q) (V₋ q) (mark_is j h) (stands j h)
               (bal_at d j S₁.one_each h) (bal_e j h))
 
@@ -641,7 +642,8 @@ module _ (i : ℕ) (L mark at : List ℕ) (x : List ℤ) (P : Posed (suc i) L x)
                 let t = solves_same i L₃ t₊ t₋ (plus (fold i 2 p n) l₋) (plus (fold i 2 n p) l₊) z₊ z₋
                 (down_2 i L D.up D.dn u u' SU y y' SV p n W) ST q l in
                 rw ec
-                (number_by p n (3 ^ i) q c (get_or d j (pos 0)) (get_or e j (pos 0)) (get_or g j (pos 0)) (get_or ws k (pos 0)) (u q) (u' q) (V₊ q)
+                (number_by p n (3 ^ i) q c (get_or d j (pos 0)) (get_or e j (pos 0)) (get_or g j (pos 0)) (get_or ws k (pos 0)) (u q)
+                (u' q) (V₊ q)
                 (V₋ q) (T₊ q) (T₋ q) s bz
                 (sum_is i L D.up D.dn u u' SU p n W q l)
                 (difference_is i L D.up D.dn u u' SU y y' SV p n W q l)
@@ -708,7 +710,8 @@ module _ (i : ℕ) (L mark at : List ℕ) (x : List ℤ) (P : Posed (suc i) L x)
 
             -- and numbers that the moments give are a solution
             pub finish : (out : List ℤ) → length out ≡ length L
-                → ((k : ℕ) → k < length L → NumberAt (3 ^ i) L at d e g k (get_or out k (pos 0))) → sum_abs out ≤ 64 → Solution (suc i) L x out
+                → ((k : ℕ) → k < length L → NumberAt (3 ^ i) L at d e g k (get_or out k (pos 0))) → sum_abs out ≤ 64
+                → Solution (suc i) L x out
             finish out lo f s =
                 let v : values W⁺ L ≡ out = values_are W⁺ L out lo (λ k b. bal_out (get_or out k (pos 0)) k b (f k b)) in
                 record {

@@ -87,7 +87,8 @@ second-within n m d e K l w = within_of n e (λ k h. rw (K.at k (omega arith)) (
 
 pub third-within : (n : ℕ) (m : List ℕ) (d e g : List ℤ) → Third m d e g → length g ≡ length m → Within n d → Within n e → Within n g
 third-within n m d e g K l v w =
-    within_of n g (λ k h. rw (K.at k (omega arith)) (abs_third (get_or m k 0) (get_or d k (pos 0)) (get_or e k (pos 0)) n (v.at k) (w.at k)))
+    within_of n g (λ k h. rw (K.at k (omega arith)) (abs_third (get_or m k 0) (get_or d k (pos 0)) (get_or e k (pos 0)) n (v.at k)
+    (w.at k)))
 
 addend_small : (k : ℕ) (m : List ℕ) (f : List ℤ) (j n : ℕ) → Within n f → nat_abs (addend k m f j) ≤ n
 unfolding addend

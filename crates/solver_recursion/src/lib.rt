@@ -3,6 +3,8 @@
 // with + less those with −, and g, those with + and −. The products with power 0, 1 and 2 on P(i+1) ask for d, e and g alone.
 //
 // The functions are for the solver and for the end of a round, whose calls show what they require; the definitions are in specs/.
+#![tactic(auto)]
+
 ghost use Rattle.std.specs.Prelude.{◌≡◌, cond, suc, ◌+◌, ◌*◌, ◌^◌, ◌<◌, ◌≤◌, leb, length};
 ghost use Rattle.refusals.specs.Limits.{most_polynomials, most_points};
 ghost use Rattle.integers.specs.Sums.{Within};
@@ -21,7 +23,7 @@ use solver_residuals::residuals;
 
 // The numbers of the patterns l of i polynomials whose queries on the adapted list are x, and those for y. False where one of the two has none whose
 // absolute values add up to at most 64. Those of inner numbers never add up to more, so that a list is refused where one inside it is.
-#[cycle(find_moments_moment_put_moment_solve_low_solve_pair_solve_split)]
+#[cycle(solving)]
 pub fn solve_pair(l: &[u16], i: usize, x: &[i16], y: &[i16], u: &mut [i16], v: &mut [i16]) -> bool
     requires i_le_most_polynomials { (i ≤ most_polynomials) × Rising l.now × Below (3 ^ i) l.now × (length l.now ≤ most_points) }
     requires x_len { (length x.now ≡ length l.now) × (length y.now ≡ length l.now) × (length u.old ≡ length l.now) × (length v.old ≡ length l.now) }
@@ -42,7 +44,7 @@ pub fn solve_pair(l: &[u16], i: usize, x: &[i16], y: &[i16], u: &mut [i16], v: &
 }
 
 // The same for at least two patterns of i + 1 polynomials.
-#[cycle(find_moments_moment_put_moment_solve_low_solve_pair_solve_split)]
+#[cycle(solving)]
 fn solve_split(l: &[u16], i: usize, x: &[i16], y: &[i16], u: &mut [i16], v: &mut [i16]) -> bool
     requires i_lt_most_polynomials { (i < most_polynomials) × Rising l.now × Below (3 ^ suc i) l.now × (length l.now ≤ most_points) }
     requires x_len { (length x.now ≡ length l.now) × (length y.now ≡ length l.now) × (length u.old ≡ length l.now) × (length v.old ≡ length l.now) }
@@ -59,7 +61,7 @@ fn solve_split(l: &[u16], i: usize, x: &[i16], y: &[i16], u: &mut [i16], v: &mut
 }
 
 // The same, where low are the patterns left, with their marks, and at has the place in low of each pattern's low part.
-#[cycle(find_moments_moment_put_moment_solve_low_solve_pair_solve_split)]
+#[cycle(solving)]
 fn solve_low(
     l: &[u16],
     i: usize,
@@ -141,7 +143,7 @@ fn shared(mark: &[u8]) -> usize
 }
 
 // The three moments of the patterns low, in both systems: d, e and g for the numbers x, and d2, e2 and g2 for y.
-#[cycle(find_moments_moment_put_moment_solve_low_solve_pair_solve_split)]
+#[cycle(solving)]
 fn find_moments(
     i: usize,
     x: &[i16],
@@ -176,7 +178,7 @@ fn find_moments(
 }
 
 // One of the later moments in both systems: v and w hold those known of the patterns low, and get the others, those whose marks have at least k signs.
-#[cycle(find_moments_moment_put_moment_solve_low_solve_pair_solve_split)]
+#[cycle(solving)]
 fn moment(
     low: &[u16],
     mark: &[u8],
@@ -207,7 +209,7 @@ fn moment(
 }
 
 // The same, where l are those patterns, and r and t remain of the numbers asked.
-#[cycle(find_moments_moment_put_moment_solve_low_solve_pair_solve_split)]
+#[cycle(solving)]
 fn put_moment(
     l: &[u16],
     mark: &[u8],

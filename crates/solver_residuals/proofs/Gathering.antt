@@ -192,7 +192,8 @@ summing_last a₁ a₂ j o t u x h S = sym (+ℤ_idr x) ∙ ap (λ (z : ℤ). x 
 -- ---- what remains of one number
 
 -- one that is too large: no others are small
-pub not_small : (i k : ℕ) (a o t : List ℕ) (u x r : List ℤ) (z : ℤ) → k < length a → z ≡ get_or x k (pos 0) -ℤ digit_sum i (get_or a k 0) o t u
+pub not_small : (i k : ℕ) (a o t : List ℕ) (u x r : List ℤ) (z : ℤ) → k < length a → z ≡ get_or x k (pos 0) -ℤ digit_sum i
+    (get_or a k 0) o t u
     → is_small z ≡ false → Subtracted i a o t u x r → Within most_points r → ⊥
 not_small i k a o t u x r z h e f S w =
     omega (arith, leb-false (nat_abs z) most_points f, w.at k, ap nat_abs (S.at k h ∙ sym e))

@@ -34,7 +34,8 @@ sign_small a₁ a₂ p₁ p₂ = sign_cases (eqb (bit_and (bit_or a₁ a₂) (bi
 -- the sum from place j on
 pub sum_next : (a₁ a₂ j : ℕ) (o t : List ℕ) (v : List ℤ) → j < length v → length o ≡ length v → length t ≡ length v
     → bit_sum a₁ a₂ (drop j o) (drop j t) (drop j v)
-    ≡ (sign_bits a₁ a₂ (get_or o j 0) (get_or t j 0) *ℤ get_or v j (pos 0)) +ℤ bit_sum a₁ a₂ (drop (suc j) o) (drop (suc j) t) (drop (suc j) v)
+    ≡ (sign_bits a₁ a₂ (get_or o j 0) (get_or t j 0) *ℤ get_or v j (pos 0)) +ℤ bit_sum a₁ a₂ (drop (suc j) o) (drop (suc j) t)
+    (drop (suc j) v)
 unfolding bit_sum
 sum_next a₁ a₂ j o t v h e f = rw (drop-cons o j 0 (omega arith), drop-cons t j 0 (omega arith), drop-cons v j (pos 0) h) refl
 

@@ -15,7 +15,8 @@
 --                               −64 .. 64; if so, r and s are they
 --   ResidualsBoth i l v w A x y r s b
 --                            == b says whether the residuals of x with v, and of y with w, are in −64 .. 64; if so, r and s are they
-use Rattle.std.specs.Prelude.{◌≡◌, Bool, true, false, ◌||◌, List, [], ◌∷◌, ℕ, ◌+◌, ◌^◌, ◌<◌, ◌≤◌, leb, ltb, ℤ, pos, nat_abs, ◌+ℤ◌, ◌-ℤ◌, ◌*ℤ◌, length, get_or, take}
+use Rattle.std.specs.Prelude.{◌≡◌, Bool, true, false, ◌||◌, List, [], ◌∷◌, ℕ, ◌+◌, ◌^◌, ◌<◌, ◌≤◌, leb, ltb, ℤ, pos, nat_abs, ◌+ℤ◌, ◌-ℤ◌}
+use Rattle.std.specs.Prelude.{◌*ℤ◌, length, get_or, take}
 use Rattle.refusals.specs.Limits.{most_points}
 use Rattle.integers.specs.Sums.{Within}
 use Rattle.signs.specs.Signs.{weighted}

@@ -1,6 +1,8 @@
 // What remains of the numbers asked of an adapted list where some of the patterns' numbers are known: each less the query of its product. Two systems at
 // once, on the same patterns: the sign of a product on a pattern serves both.
 // The functions are for the solver, whose calls show what they require; the definitions are in specs/.
+#![tactic(auto)]
+
 ghost use Rattle.std.specs.Prelude.{◌≡◌, cond, ◌+◌, ◌*◌, ◌^◌, ◌≤◌, ◌<◌, nat_abs, length};
 ghost use Rattle.refusals.specs.Limits.{most_polynomials, most_points};
 ghost use Rattle.integers.specs.Sums.{Within};
@@ -93,7 +95,7 @@ fn gather(
 }
 
 // The queries of one product in the two systems.
-#[derive(Drop)]
+#[derive(Clone, Copy)]
 pub struct Queries {
     pub first: i16,
     pub second: i16,

@@ -1,9 +1,13 @@
 // Solves the systems of the files that the arguments name, and compares each answer, and all that the output slice holds then, with what
 // tools/solver_systems.py worked out by another route. The files' layout is written there.
+#![tactic(auto)]
+
 ghost use Rattle.std.specs.Prelude.{◌≡◌, ◌+◌, ◌*◌, ◌<◌, ◌≤◌, length};
 
-use libc::STDOUT_FILENO;
 use solver::Solved;
+use std::env::Env;
+use std::io;
+use std::rt::Files;
 use test_input::{byte, read_pairs};
 
 // Room for a list: more than any length that a byte can say.
@@ -221,7 +225,7 @@ fn compare_list(file: &[u8], at: usize, tally: &mut [u32; 17]) -> usize
 }
 
 // Compares the systems of every list of a file, and says so where the file does not end with the last of them.
-fn compare_all(file: &[u8], tally: &mut [u32; 17])
+fn compare_all(rt: &impl Print, file: &[u8], tally: &mut [u32; 17]) -> io::Result<()>
     requires { length file.now ≤ 65536 }
 {
     let mut at = 0;
@@ -229,45 +233,47 @@ fn compare_all(file: &[u8], tally: &mut [u32; 17])
         at = compare_list(file, at, tally);
     }
     if at != file.len() {
-        io::write_all(STDOUT_FILENO, b"a file ends too early\n");
+        println!(rt; "a file ends too early")?;
     }
+    Ok(())
 }
 
 // Compares the systems of the file that argument k names.
-fn compare_file(k: usize, tally: &mut [u32; 17]) {
-    let mut file = io::large_buffer();
-    let n = test_input::read_argument(k, &mut file);
-    compare_all(&file[..n], tally);
+fn compare_file(
+    rt: &(impl Env + Files + Print + Eprint),
+    k: usize,
+    tally: &mut [u32; 17],
+) -> io::Result<()> {
+    let mut file = [0u8; test_input::ROOM];
+    let n = test_input::read_argument(rt, k, &mut file);
+    compare_all(rt, &file[..n], tally)
 }
 
-fn print_number(n: u32) {
-    io::print_decimal(STDOUT_FILENO, n as u64);
+fn print_number(rt: &impl Print, n: u32) -> io::Result<()> {
+    print!(rt; "{n}")
 }
 
 // Prints how many systems there are of kind k.
-fn print_kind(k: usize, n: u32) {
-    io::write_all(STDOUT_FILENO, b"kind ");
-    io::print_decimal(STDOUT_FILENO, k as u64);
-    io::write_all(STDOUT_FILENO, b": ");
-    print_number(n);
-    io::write_all(STDOUT_FILENO, b"\n");
+fn print_kind(rt: &impl Print, k: usize, n: u32) -> io::Result<()> {
+    println!(rt; "kind {k}: {n}")
 }
 
-fn print_kinds(tally: &[u32; 17]) {
+fn print_kinds(rt: &impl Print, tally: &[u32; 17]) -> io::Result<()> {
     let mut k = 0;
     while k < KINDS {
-        print_kind(k, tally[k]);
+        print_kind(rt, k, tally[k])?;
         k += 1;
     }
+    Ok(())
 }
 
-fn main() {
+fn main(rt: HostRuntime) -> io::Result<()> {
     let mut tally = [0u32; 17];
-    compare_file(1, &mut tally);
-    compare_file(2, &mut tally);
-    print_number(tally[ALL]);
-    io::write_all(STDOUT_FILENO, b" systems, ");
-    print_number(tally[UNLIKE]);
-    io::write_all(STDOUT_FILENO, b" differ\n");
-    print_kinds(&tally);
+    compare_file(&rt, 1, &mut tally)?;
+    compare_file(&rt, 2, &mut tally)?;
+    print_number(&rt, tally[ALL])?;
+    print!(rt; " systems, ")?;
+    print_number(&rt, tally[UNLIKE])?;
+    println!(rt; " differ")?;
+    print_kinds(&rt, &tally)
 }

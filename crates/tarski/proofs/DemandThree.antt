@@ -46,7 +46,7 @@ pub record Started (s : ℕ) (c : Run) (x : Step) : Type 2 where
   pub result : FlatStep
   pub ends : AtExit start.ended lifetimes
   pub kept : Held world
-      ((start.clauses world.resources world.alloc world.atoms world.memory world.routines lifetimes args).ensures tt result
+      ((start.clauses world.𝓛 world.memory world.routines lifetimes args).ensures tt result
       ends)
   pub for : args.1.0 ≡ s
   pub left : ends.0.now ≡ c
@@ -59,7 +59,7 @@ pub record Took (c : Run) (z : ℤ) (c' : Run) (x : Step) : Type 2 where
   pub result : FlatStep
   pub ends : AtExit answer.ended lifetimes
   pub kept : Held world
-      ((answer.clauses world.resources world.alloc world.atoms world.memory world.routines lifetimes args).ensures tt result
+      ((answer.clauses world.𝓛 world.memory world.routines lifetimes args).ensures tt result
       ends)
   pub was : args.0.now ≡ c
   pub number : args.1.0 ≡ z
@@ -73,7 +73,7 @@ pub record Fetches (c : Run) (p : ℕ) (x : Fetch) : Type 2 where
   pub result : FlatRow
   pub ends : AtExit fetch.ended lifetimes
   pub kept : Held world
-      ((fetch.clauses world.resources world.alloc world.atoms world.memory world.routines lifetimes args).ensures tt result
+      ((fetch.clauses world.𝓛 world.memory world.routines lifetimes args).ensures tt result
       ends)
   pub was : args.0.now ≡ c
   pub position : args.1.0 ≡ p
@@ -86,7 +86,7 @@ pub record Copies (c : Run) (a b : List ℕ) (x : Copy) : Type 2 where
   pub result : FlatCopied
   pub ends : AtExit copy.ended lifetimes
   pub kept : Held world
-      ((copy.clauses world.resources world.alloc world.atoms world.memory world.routines lifetimes args).ensures tt result
+      ((copy.clauses world.𝓛 world.memory world.routines lifetimes args).ensures tt result
       ends)
   pub was : args.0.now ≡ c
   pub patterns : args.1.0.now ≡ a
@@ -99,7 +99,7 @@ pub record Asked (c : Run) (total : ℕ) : Type 2 where
   pub args : Args asked.signature lifetimes
   pub ends : AtExit asked.ended lifetimes
   pub kept : Held world
-      ((asked.clauses world.resources world.alloc world.atoms world.memory world.routines lifetimes args).ensures tt total
+      ((asked.clauses world.𝓛 world.memory world.routines lifetimes args).ensures tt total
       ends)
   pub was : args.0.now ≡ c
 

@@ -10,7 +10,7 @@ use Prim.Native.Nat.{ℕ, zero, suc, ◌+◌, ◌^◌}
 use native.Mathlib.Nat.{ℕ_set}
 use native.Mathlib.Omega.{arith}
 use contract.Lifetimes.{Lfts}
-use denote.Ref.{Bor}
+use denote.Ref.{Bor, MutBor}
 use denote.Triple.Entry.{Args}
 use denote.Triple.Clauses.{AtExit}
 use ghost.Sets.{retract_set}
@@ -94,7 +94,7 @@ pub record Asked (k : Opened) (α : ℕ) (o : FlatCounts) : Type 2 where
   pub args : Args ask.signature lifetimes
   pub ends : AtExit ask.ended lifetimes
   pub kept : Held world
-      ((ask.clauses world.resources world.alloc world.atoms world.memory world.routines lifetimes args).ensures tt o ends)
+      ((ask.clauses world.𝓛 world.memory world.routines lifetimes args).ensures tt o ends)
   pub was : args.0.now ≡ k
   pub product : args.1.0 ≡ α
 
@@ -140,7 +140,7 @@ solve_back of-solver.Found h = refl
 solve_back (of-solver.Refused zero) h = absurd (h refl)
 solve_back (of-solver.Refused (suc k)) h = refl
 
-pub library_adapted : (κs : Lfts 2) (s : ℕ) (patterns out out' : Bor (List ℕ)) (r : ℕ)
+pub library_adapted : (κs : Lfts 2) (s : ℕ) (patterns : Bor (List ℕ)) (out out' : MutBor (List ℕ)) (r : ℕ)
     → adapted.Learnt κs (s, (patterns, (out, tt))) r (s, (patterns, (out', tt)))
     → Gives s patterns.now out.now (listed_from r) out'.now
 library_adapted κs s patterns out out' r (e, f) =
@@ -153,7 +153,7 @@ library_adapted κs s patterns out out' r (e, f) =
     numbered (inr (inr x)) = omega (arith, x)
 
 -- DEMAND 2, its second sentence
-pub demand2_library_solve : (κs : Lfts 3) (s : ℕ) (patterns : Bor (List ℕ)) (numbers out out' : Bor (List ℤ)) (r : ℕ)
+pub demand2_library_solve : (κs : Lfts 3) (s : ℕ) (patterns : Bor (List ℕ)) (numbers : Bor (List ℤ)) (out out' : MutBor (List ℤ)) (r : ℕ)
     → solve.Learnt κs (s, (patterns, (numbers, (out, tt)))) r (s, (patterns, (numbers, (out', tt))))
     → SolverClaim s patterns.now numbers.now out.now (solved_from r) out'.now
 unfolding is_among

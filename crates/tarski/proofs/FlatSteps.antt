@@ -66,7 +66,8 @@ flat_begun run run' s x t g h k e =
       λ l. let clash : ◌≡◌ {A = ℕ} 0 2 = ap (λ (u : FlatStep). u.kind) (sym n ∙ l) in absurd (omega arith),
     )
 
-pub flat_start : (run run' : Run) (s : ℕ) (x : Step) (t : FlatStep) → StartIn run s run' x → t ≡ flat_step_of x → StartGivesFlat run s run' t
+pub flat_start : (run run' : Run) (s : ℕ) (x : Step) (t : FlatStep) → StartIn run s run' x → t ≡ flat_step_of x
+    → StartGivesFlat run s run' t
 flat_start run run' s x t k e = go (dec_le 1 s) (dec_le s 8)
   where
     go : Dec (1 ≤ s) → Dec (s ≤ 8) → StartGivesFlat run s run' t

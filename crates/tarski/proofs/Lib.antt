@@ -1,5 +1,4 @@
 pub mod FlatSteps
-pub mod Lent
 pub mod DemandTwo
 pub mod DemandThree
 pub mod DemandOne

@@ -11,7 +11,7 @@ use native.Mathlib.Nat.{ℕ_set}
 use native.Mathlib.Omega.{arith}
 use borrow.Author.Tests.{ne_eqb}
 use contract.Lifetimes.{Lfts}
-use denote.Ref.{Bor}
+use denote.Ref.{Bor, MutBor}
 use denote.Triple.Entry.{Args}
 use denote.Triple.Clauses.{AtExit}
 use ghost.Sets.{retract_set}
@@ -83,7 +83,7 @@ module _ (l : List ℕ) (out out' : List ℤ) (o : FlatNumbered) where
   opened_plain k e = rw (ap (λ t. t.0) e) (plain (λ a. AskAllGives k l out a out') k l out (rw (ap (λ t. t.1) e) (opened_list k l out)))
 
 -- WISH 5 of the library: on a card
-pub library_query-all : (κs : Lfts 3) (card products : Bor (List ℕ)) (out out' : Bor (List ℤ)) (o : FlatNumbered)
+pub library_query-all : (κs : Lfts 3) (card products : Bor (List ℕ)) (out out' : MutBor (List ℤ)) (o : FlatNumbered)
     → query-all.Learnt κs (card, (products, (out, tt))) o (card, (products, (out', tt)))
     → ListPlain (λ a. QueryAllGives card.now products.now out.now a out'.now) o
 library_query-all κs card products out out' o e = card_plain products.now out.now out'.now o card.now e
@@ -95,7 +95,7 @@ pub record AskedAll (k : Opened) (l : List ℕ) (out : List ℤ) (o : FlatNumber
   pub args : Args ask-all.signature lifetimes
   pub ends : AtExit ask-all.ended lifetimes
   pub kept : Held world
-      ((ask-all.clauses world.resources world.alloc world.atoms world.memory world.routines lifetimes args).ensures tt o ends)
+      ((ask-all.clauses world.𝓛 world.memory world.routines lifetimes args).ensures tt o ends)
   pub was : args.0.now ≡ k
   pub products : args.1.0.now ≡ l
   pub lent : args.1.1.0.now ≡ out

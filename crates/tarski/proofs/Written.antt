@@ -4,7 +4,7 @@ use mathlib.Core.Path.{◌≡◌, refl}
 use mathlib.Core.List.{List}
 use Prim.Native.Nat.{ℕ, zero, suc}
 use contract.Lifetimes.{Lfts}
-use denote.Ref.{Bor}
+use denote.Ref.{Bor, MutBor}
 use lib.Dec.{eqb-suc-zero}
 use lib.IntN.{ℤ}
 use Rattle.refusals.specs.Numbers.{◌▸◌}
@@ -35,13 +35,13 @@ drawn_back : (seed s n d : ℕ) (out : List ℕ) → written_from (written_of (d
 unfolding drawing
 drawn_back seed s n d out = placed_back (draw_cause s n d ▸ buffer_cause (drawn_card seed s n d) out) (drawn_card seed s n d) out
 
-pub library_write : (κs : Lfts 4) (ds : Bor (List ℕ)) (cs ps : Bor (List ℤ)) (out out' : Bor (List ℕ)) (o : FlatWritten)
+pub library_write : (κs : Lfts 4) (ds : Bor (List ℕ)) (cs ps : Bor (List ℤ)) (out out' : MutBor (List ℕ)) (o : FlatWritten)
     → write.Learnt κs (ds, (cs, (ps, (out, tt)))) o (ds, (cs, (ps, (out', tt))))
     → WriteGives ds.now cs.now ps.now out.now (written_from o) out'.now
 library_write κs ds cs ps out out' o (e, f) =
     rw (e, f, written_back ds.now cs.now ps.now out.now) (writing-gives ds.now cs.now ps.now out.now)
 
-pub library_draw : (κs : Lfts 1) (seed s n d : ℕ) (out out' : Bor (List ℕ)) (o : FlatWritten)
+pub library_draw : (κs : Lfts 1) (seed s n d : ℕ) (out out' : MutBor (List ℕ)) (o : FlatWritten)
     → draw.Learnt κs (seed, (s, (n, (d, (out, tt))))) o (seed, (s, (n, (d, (out', tt)))))
     → DrawGives seed s n d out.now (written_from o) out'.now
 library_draw κs seed s n d out out' o (e, f) = rw (e, f, drawn_back seed s n d out.now) (drawing-gives seed s n d out.now)

@@ -77,7 +77,8 @@ AnswerGivesFlat run a run' step = (x : Step) × AnswerGives run a run' x × (ste
 -- where it is refused the record is as it was, whatever it holds
 abbrev pub StartGivesFlat : Run → ℕ → Run → FlatStep → Type 0
 StartGivesFlat run s run' step =
-    ((state_of run', step) ≡ flat_answered_of (kept_on (state_of run) (started_of s))) × (step ≡ flat_step_of (refused wrong_count) → run' ≡ run)
+    ((state_of run', step) ≡ flat_answered_of (kept_on (state_of run) (started_of s)))
+    × (step ≡ flat_step_of (refused wrong_count) → run' ≡ run)
 
 unfoldable pub row_of : Fetch → FlatRow
 row_of (row r) = record { pattern = r.pattern; count = r.count; refusal = 0 }

@@ -1,5 +1,7 @@
 // The library for programs in C and Rust (include/tarski.h, include/tarski.rs): the proved calls on plain numbers, slices as pointer and length, and
 // records lent by reference. An enum's cases are numbers here: the definitions in specs/Flat.antt say which.
+#![tactic(auto)]
+
 ghost use Rattle.std.specs.Prelude.{◌≡◌};
 ghost use Rattle.card.specs.Answers.{reading, value_answer, value_at_answer};
 ghost use Rattle.query.specs.Query.{query_answer};
@@ -29,7 +31,7 @@ use solver::Solved;
 
 // What a card says of itself, or the number that refuses it.
 #[repr(C)]
-#[derive(Drop)]
+#[derive(Clone, Copy)]
 pub struct Checked {
     pub polynomials: usize,
     pub points: usize,
@@ -38,7 +40,7 @@ pub struct Checked {
 
 // A value, or the number that refuses it.
 #[repr(C)]
-#[derive(Drop)]
+#[derive(Clone, Copy)]
 pub struct Number {
     pub number: i64,
     pub refusal: u16,
@@ -46,7 +48,7 @@ pub struct Number {
 
 // The panel number of a query and its three counts, or the number that refuses it.
 #[repr(C)]
-#[derive(Drop)]
+#[derive(Clone, Copy)]
 pub struct FlatCounts {
     pub number: i64,
     pub positive: u16,
@@ -57,7 +59,7 @@ pub struct FlatCounts {
 
 // How a list of products is answered: 0 where the numbers are written, else the number that refuses, for a bad product with its position.
 #[repr(C)]
-#[derive(Drop)]
+#[derive(Clone, Copy)]
 pub struct FlatNumbered {
     pub position: usize,
     pub refusal: u16,
@@ -75,7 +77,7 @@ const REFUSED: u16 = 2;
 
 // What a call on a run gives: 0 with the product to ask, 1 where it is done, 2 with the number that refuses.
 #[repr(C)]
-#[derive(Drop)]
+#[derive(Clone, Copy)]
 pub struct FlatStep {
     pub kind: u16,
     pub value: u16,
@@ -83,7 +85,7 @@ pub struct FlatStep {
 
 // A row, or the number that refuses it.
 #[repr(C)]
-#[derive(Drop)]
+#[derive(Clone, Copy)]
 pub struct FlatRow {
     pub pattern: u16,
     pub count: u16,
@@ -92,7 +94,7 @@ pub struct FlatRow {
 
 // How many rows were copied, or the number that refuses.
 #[repr(C)]
-#[derive(Drop)]
+#[derive(Clone, Copy)]
 pub struct FlatCopied {
     pub rows: usize,
     pub refusal: u16,
@@ -100,7 +102,7 @@ pub struct FlatCopied {
 
 // How many bytes the card written has, or the number that refuses it.
 #[repr(C)]
-#[derive(Drop)]
+#[derive(Clone, Copy)]
 pub struct FlatWritten {
     pub length: usize,
     pub refusal: u16,

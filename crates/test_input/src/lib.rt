@@ -1,23 +1,57 @@
 // What the test programs share: a file that an argument names, and the numbers in it. Nothing is known of what a file holds: past its end every byte
 // reads as 0.
+#![tactic(auto)]
+
 ghost use Rattle.std.specs.Prelude.{◌≤◌, ◌<◌, length};
 ghost use Rattle.io.specs.Counts.{IsPrefixLen};
 
-// Reads the file that argument i names to the front of out, as much as there is room for, and returns how many bytes that is. Where the file cannot be
-// opened, says so on standard error, and reads none.
-pub fn read_argument(i: usize, out: &mut [u8]) -> usize
+use std::env::Env;
+use std::fs::File;
+use std::io::Read;
+use std::rt::Files;
+
+// The bytes that a file may take, and one.
+pub const ROOM: usize = 65536;
+
+// The bytes that a path may take.
+const LONGEST_PATH: usize = 4096;
+
+// Argument i, or the empty text where there is none, or none that names a file: it is longer than a path, or not UTF-8.
+fn argument<'a>(rt: &impl Env, i: usize, path: &'a mut [u8]) -> &'a str {
+    match rt.arg(i, path) {
+        Ok(n) => str::from_utf8(&path[..n]).unwrap_or(""),
+        Err(_) => "",
+    }
+}
+
+// Reads until out is full, the file ends or a read fails, and returns how many bytes it put at the front of out.
+fn read_full(file: &mut impl Read, out: &mut [u8]) -> usize
     ensures { IsPrefixLen result out.new }
 {
-    let mut path = io::buffer();
-    let length = os::arg(i, &mut path);
-    let fd = os::open_read(&path[..length]);
-    if fd < 0 {
-        os::fail(&path[..length]);
-        return 0;
+    let mut done = 0;
+    while done < out.len() {
+        match file.read(&mut out[done..]) {
+            Ok(n) if 0 < n => done += n,
+            _ => break,
+        }
     }
-    let n = io::read_full(fd, out);
-    libc::close(fd);
-    n
+    done
+}
+
+// Reads the file that argument i names to the front of out, as much as there is room for, and returns how many bytes that is. Where the file cannot be
+// opened, says so on standard error, and reads none.
+pub fn read_argument(rt: &(impl Env + Files + Eprint), i: usize, out: &mut [u8]) -> usize
+    ensures { IsPrefixLen result out.new }
+{
+    let mut buffer = [0u8; LONGEST_PATH];
+    let path = argument(rt, i, &mut buffer);
+    match File::open(rt, path) {
+        Ok(mut file) => read_full(&mut file, out),
+        Err(error) => {
+            let _ = eprintln!(rt; "{path}: {error}");
+            0
+        }
+    }
 }
 
 // A byte as a wider number.

@@ -4,10 +4,13 @@
 // The file is one record after the other. A record begins with what it is (0: a card is written; 1: one is drawn) and with how many bytes of a buffer are
 // lent. Of a draw follow the seed, s, n and d; of a card that is written, how many degrees, coefficients and points there are, and then these. Every number
 // has eight bytes, high byte first, in two's complement.
-ghost use Rattle.std.specs.Prelude.{◌≤◌, ◌<◌, length};
+#![tactic(auto)]
+
+ghost use Rattle.std.specs.Prelude.{◌≤◌, ◌<◌, length, IfOk};
 
 use card_writer::Written;
-use libc::STDOUT_FILENO;
+use std::io;
+use std::io::Write;
 use test_input::pair;
 
 // How many degrees, coefficients or points a call has at most, and the room for a buffer.
@@ -85,8 +88,8 @@ fn read_numbers(file: &[u8], at: usize, out: &mut [i64]) {
 
 // ---- what is written
 
-fn put(b: u8) {
-    io::write_all(STDOUT_FILENO, &[b]);
+fn put(out: &mut impl Write, b: u8) -> io::Result<()> {
+    out.write_all(&[b])
 }
 
 // A digit to the base 16.
@@ -99,33 +102,29 @@ fn hexadecimal(d: u8) -> u8
     b'a' + (d - 10)
 }
 
-fn print_bytes(bytes: &[u8]) {
+fn print_bytes(out: &mut impl Write, bytes: &[u8]) -> io::Result<()> {
     let mut i = 0;
     while i < bytes.len() {
         let b = bytes[i];
-        io::write_all(STDOUT_FILENO, &[hexadecimal(b / 16), hexadecimal(b % 16)]);
+        out.write_all(&[hexadecimal(b / 16), hexadecimal(b % 16)])?;
         i += 1;
     }
+    Ok(())
 }
 
-fn print_answer(answer: Written) {
+fn print_answer(out: &mut impl Write, answer: Written) -> io::Result<()> {
     match answer {
-        Written::Length(n) => {
-            io::print_decimal(STDOUT_FILENO, n as u64);
-        }
-        Written::Refused(k) => {
-            put(b'R');
-            io::print_decimal(STDOUT_FILENO, k as u64);
-        }
+        Written::Length(n) => write!(out, "{n}")?,
+        Written::Refused(k) => write!(out, "R{k}")?,
     }
-    put(b' ');
+    put(out, b' ')
 }
 
 // A buffer's first contents, so that what a call leaves of them shows.
-fn fill(out: &mut [u8]) {
+fn fill(card: &mut [u8]) {
     let mut k = 0;
-    while k < out.len() {
-        out[k] = (k % 251) as u8;
+    while k < card.len() {
+        card[k] = (k % 251) as u8;
         k += 1;
     }
 }
@@ -133,16 +132,24 @@ fn fill(out: &mut [u8]) {
 // ---- the calls
 
 // Draws a card into the buffer.
-fn draw_at(file: &[u8], at: usize, out: &mut [u8]) {
+fn draw_at(out: &mut impl Write, file: &[u8], at: usize, card: &mut [u8]) -> io::Result<()> {
     let seed = word(file, at) % 4294967296;
     let s = word(file, after(file, at, 1)) as usize;
     let n = word(file, after(file, at, 2)) as usize;
     let d = word(file, after(file, at, 3)) as usize;
-    print_answer(card_draw::draw(seed as u32, s, n, d, out));
+    print_answer(out, card_draw::draw(seed as u32, s, n, d, card))
 }
 
 // Writes a card of so many degrees, coefficients and points into the buffer.
-fn write_at(file: &[u8], at: usize, s: usize, m: usize, n: usize, out: &mut [u8])
+fn write_at(
+    out: &mut impl Write,
+    file: &[u8],
+    at: usize,
+    s: usize,
+    m: usize,
+    n: usize,
+    card: &mut [u8],
+) -> io::Result<()>
     requires { (s ≤ 128) × (m ≤ 128) × (n ≤ 128) }
 {
     let mut degrees = [0usize; MOST_NUMBERS];
@@ -151,52 +158,56 @@ fn write_at(file: &[u8], at: usize, s: usize, m: usize, n: usize, out: &mut [u8]
     read_degrees(file, at, &mut degrees[..s]);
     read_numbers(file, after(file, at, s), &mut coefficients[..m]);
     read_numbers(file, after(file, at, s + m), &mut points[..n]);
-    print_answer(card_writer::write(&degrees[..s], &coefficients[..m], &points[..n], out));
+    print_answer(
+        out,
+        card_writer::write(&degrees[..s], &coefficients[..m], &points[..n], card),
+    )
 }
 
 // The record at a place. Returns the place after it.
-fn call_at(file: &[u8], at: usize, out: &mut [u8]) -> usize
-    ensures { result ≤ length file.now }
+fn call_at(out: &mut impl Write, file: &[u8], at: usize, card: &mut [u8]) -> io::Result<usize>
+    ensures { IfOk result (λ end. end ≤ length file.now) }
 {
-    fill(out);
+    fill(card);
     let from = after(file, at, 2);
     if word(file, at) == 1 {
-        draw_at(file, from, out);
-        return after(file, at, 6);
+        draw_at(out, file, from, card)?;
+        return Ok(after(file, at, 6));
     }
     let s = least(word(file, from), MOST_NUMBERS);
     let m = least(word(file, after(file, at, 3)), MOST_NUMBERS);
     let n = least(word(file, after(file, at, 4)), MOST_NUMBERS);
-    write_at(file, after(file, at, 5), s, m, n, out);
-    after(file, at, 5 + s + m + n)
+    write_at(out, file, after(file, at, 5), s, m, n, card)?;
+    Ok(after(file, at, 5 + s + m + n))
 }
 
 // Makes the call at a place, with a buffer as long as it says. Returns the place after it.
-fn answer_at(file: &[u8], at: usize) -> usize
-    ensures { result ≤ length file.now }
+fn answer_at(out: &mut impl Write, file: &[u8], at: usize) -> io::Result<usize>
+    ensures { IfOk result (λ end. end ≤ length file.now) }
 {
-    let mut out = [0u8; MOST_ROOM];
+    let mut card = [0u8; MOST_ROOM];
     let room = least(word(file, after(file, at, 1)), MOST_ROOM);
-    let end = call_at(file, at, &mut out[..room]);
-    print_bytes(&out[..room]);
-    put(b'\n');
-    end
+    let end = call_at(out, file, at, &mut card[..room])?;
+    print_bytes(out, &card[..room])?;
+    put(out, b'\n')?;
+    Ok(end)
 }
 
 // Makes the calls one after the other, until one ends where it began.
-fn answer_all(file: &[u8]) {
+fn answer_all(out: &mut impl Write, file: &[u8]) -> io::Result<()> {
     let mut at = 0;
     while at < file.len() {
-        let end = answer_at(file, at);
+        let end = answer_at(out, file, at)?;
         if end <= at {
-            return;
+            return Ok(());
         }
         at = end;
     }
+    Ok(())
 }
 
-fn main() {
-    let mut file = io::large_buffer();
-    let n = test_input::read_argument(1, &mut file);
-    answer_all(&file[..n]);
+fn main(rt: HostRuntime) -> io::Result<()> {
+    let mut file = [0u8; test_input::ROOM];
+    let n = test_input::read_argument(&rt, 1, &mut file);
+    answer_all(&mut io::writer(&rt), &file[..n])
 }

@@ -1,0 +1,7 @@
+-- `lines::put_refusal` meets its contract.
+use Rattle.lines.specs.Text.{refusal_line}
+use Rattle.lines.proofs.put_refusal.Goals as goal
+
+pub returns : goal.returns
+unfolding refusal_line
+returns c = c.put_last.ensures

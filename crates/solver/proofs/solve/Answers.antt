@@ -1,0 +1,113 @@
+-- `solver::solve` meets its contract.
+use Prim.Native.Nat.{ℕ, ◌≤◌}
+use mathlib.Core.Path.{◌≡◌, sym, ap, ◌∙◌}
+use mathlib.Core.Bool.{true}
+use lib.ListN.{length}
+use mathlib.Core.List.{List}
+use lib.IntN.{ℤ}
+use lib.Seq.{length-take-le}
+use Rattle.refusals.specs.Limits.{most_polynomials, most_points}
+use Rattle.solutions.specs.Solution.{Posed}
+use Rattle.solutions.specs.Posing.{is_list}
+use Rattle.solutions.proofs.Posing.{list_true}
+use Rattle.solver.specs.declared.Solved.{Solved}
+use Rattle.solver.proofs.Answers.{refused_none, refused-many, refused_list, refused-short, well_posed}
+use Rattle.solver.proofs.solve.Goals as goal
+use Rattle.solver.proofs.solve.Goals.{Else-out-n}
+
+-- the answer and the slice at exit, from an equation of the pair
+parts : {p q : Solved × List ℤ} → p ≡ q → (q.0 ≡ p.0) × (q.1 ≡ p.1)
+parts e = (sym (ap (λ p. p.0) e), sym (ap (λ p. p.1) e))
+
+pub returns-then-s-eq0 : goal.returns-then-s-eq0
+returns-then-s-eq0 c =
+    let a = c.args in
+    record {
+      value = (parts (refused_none a.s a.patterns.now a.numbers.now a.out.now c.if-s-eq0.true)).0;
+      out_after = (parts (refused_none a.s a.patterns.now a.numbers.now a.out.now c.if-s-eq0.true)).1;
+    }
+
+pub returns-then-s-gt-MOST_POLYNOMIALS : goal.returns-then-s-gt-MOST_POLYNOMIALS
+returns-then-s-gt-MOST_POLYNOMIALS c =
+    let a = c.args in
+    record {
+      value = (parts (refused-many a.s a.patterns.now a.numbers.now a.out.now c.if-s-gt-MOST_POLYNOMIALS.true)).0;
+      out_after = (parts (refused-many a.s a.patterns.now a.numbers.now a.out.now c.if-s-gt-MOST_POLYNOMIALS.true)).1;
+    }
+
+pub returns-then-not-posed : goal.returns-then-not-posed
+returns-then-not-posed c =
+    let a = c.args in
+    record {
+      value = (parts (refused_list a.s a.patterns.now a.numbers.now a.out.now c.if-s-eq0.false
+          c.if-s-gt-MOST_POLYNOMIALS.false (sym c.posed.ensures ∙ c.if-not-posed.true))).0;
+      out_after = (parts (refused_list a.s a.patterns.now a.numbers.now a.out.now c.if-s-eq0.false
+          c.if-s-gt-MOST_POLYNOMIALS.false (sym c.posed.ensures ∙ c.if-not-posed.true))).1;
+    }
+
+pub returns-then-out-n : goal.returns-then-out-n
+returns-then-out-n c =
+    let a = c.args in
+    record {
+      value = (parts (refused-short a.s a.patterns.now a.numbers.now a.out.now c.if-s-eq0.false
+          c.if-s-gt-MOST_POLYNOMIALS.false
+          (sym c.posed.ensures ∙ c.if-not-posed.false) c.if-out-n.true)).0;
+      out_after = (parts (refused-short a.s a.patterns.now a.numbers.now a.out.now c.if-s-eq0.false
+          c.if-s-gt-MOST_POLYNOMIALS.false
+          (sym c.posed.ensures ∙ c.if-not-posed.false) c.if-out-n.true)).1;
+    }
+
+-- after the tests
+record Tested (s : ℕ) (L : List ℕ) (xs out : List ℤ) : Type 0 where
+  some : s ≡ 0 → ⊥
+  few : s ≤ most_polynomials
+  list : is_list s L xs ≡ true
+  room : length L ≤ length out
+
+tested : (c : Else-out-n) →
+    let a = c.args in
+    Tested a.s a.patterns.now a.numbers.now a.out.now
+tested c =
+    record {
+      some = c.if-s-eq0.false;
+      few = c.if-s-gt-MOST_POLYNOMIALS.false;
+      list = sym c.posed.ensures ∙ c.if-not-posed.false;
+      room = c.if-out-n.false;
+    }
+
+posed_list : (c : Else-out-n) →
+    let a = c.args in
+    (length a.patterns.now ≤ most_points) × Posed a.s a.patterns.now a.numbers.now
+posed_list c = list_true _ _ _ (tested c).list
+
+pub slice_bounds-x-end : goal.slice_bounds-x-end
+slice_bounds-x-end c = (posed_list c).0
+
+pub slice_bounds-solve_to-end : goal.slice_bounds-solve_to-end
+slice_bounds-solve_to-end c = sym (length-take-le _ _ (posed_list (goal.at.slice_bounds-solve_to-end c).Else-out-n).0)
+
+pub slice_bounds-v-end : goal.slice_bounds-v-end
+slice_bounds-v-end c = (posed_list (goal.at.slice_bounds-v-end c).Else-out-n).0
+
+pub slice_bounds-solve_to-end-2 : goal.slice_bounds-solve_to-end-2
+slice_bounds-solve_to-end-2 c = sym (length-take-le _ _ (posed_list (goal.at.slice_bounds-solve_to-end-2 c).Else-out-n).0)
+
+pub solve_to-requires : goal.solve_to-requires
+solve_to-requires c =
+    let t = tested (goal.at.solve_to-requires c).Else-out-n in
+    let (n, P) = posed_list (goal.at.solve_to-requires c).Else-out-n in
+    record {
+      s_le_most_polynomials = (t.few, n, t.room);
+      x_len = (length-take-le _ _ n, length-take-le _ _ n);
+      posed = P;
+    }
+
+pub returns : goal.returns
+returns c =
+    let a = c.args in
+    let t = tested (goal.at.returns c).Else-out-n in
+    let e = well_posed a.s a.patterns.now a.numbers.now a.out.now t.some t.few t.list t.room in
+    record {
+      value = c.solve_to.ensures.value ∙ sym (ap (λ p. p.0) e);
+      out_after = c.solve_to.ensures.out_after ∙ sym (ap (λ p. p.1) e);
+    }
