@@ -1,4 +1,4 @@
-//! Safe calls of libtarski.a for Rust: include this file as a module and link the library (`-L target/staticlib -l static=tarski`).
+//! Safe calls of libtarski.a for Rust: include this file as a module and link the library (`-L crates/tarski/out -l static=tarski`).
 //! `include/tarski.h` has what holds of all calls; `Err` carries the refusal, and README.md has its table.
 
 use std::fmt;

@@ -465,7 +465,7 @@ def main():
     words = argparse.ArgumentParser(description=__doc__.splitlines()[0])
     words.add_argument('--seed', default='1', help="a number, or 'day' for the day's")
     words.add_argument('--cards', type=int, default=6000, help='how many to draw; every third is damaged')
-    words.add_argument('program', nargs='?', default=os.path.join('target', 'bin', 'askcard'))
+    words.add_argument('program', nargs='?', default=os.path.join('crates', 'askcard', 'out', 'askcard'))
     words = words.parse_args()
     seed = int(datetime.date.today().strftime('%Y%m%d') if words.seed == 'day' else words.seed)
     draw = random.Random(seed)

@@ -24,8 +24,8 @@ import sys
 import tempfile
 
 ROOT = os.path.dirname(os.path.dirname(os.path.abspath(__file__)))
-PROGRAM = os.path.join(ROOT, 'target', 'bin', 'card_tests')
 TESTS = os.path.join(ROOT, 'crates', 'card_tests')
+PROGRAM = os.path.join(TESTS, 'out', 'card_tests')  # rt ci makes it, or rt run
 ROOM = 65536  # bytes that the program reads
 LARGEST = 1000000  # of a coefficient
 FURTHEST = 100  # of a point

@@ -7,8 +7,8 @@ CARDS cards are drawn, of every s and every n in turn, every other one with poin
 with a damage of tools/compare_cards.py; before them come its cards of repeated points. Each is asked some lists: empty, short and long ones, with products
 that stand more than once, with a bad product first, in between and last, with two, into slices as long as the list, longer and shorter. Of each call the
 refusal, the position and the whole slice are compared. The second reader is that of tools/compare_cards.py: values by powers, at the points as a set, each
-once however often it stands on the card, a query by the exact product of the values. It needs the archive that `rt staticlib tarski` makes, and cc. It fails
-where a case, one of repeated points too, never occurred on either kind of card.
+once however often it stands on the card, a query by the exact product of the values. It needs the archive that `rt lib` in crates/tarski makes, and cc. It
+fails where a case, one of repeated points too, never occurred on either kind of card.
 """
 
 import datetime
@@ -21,7 +21,7 @@ import tempfile
 import compare_cards
 
 ROOT = compare_cards.ROOT
-ARCHIVE = os.path.join(ROOT, 'target', 'staticlib', 'libtarski.a')
+ARCHIVE = os.path.join(ROOT, 'crates', 'tarski', 'out', 'libtarski.a')
 LONGEST = 593  # products in a list
 
 # ---- the second reader

@@ -23,10 +23,10 @@ import tempfile
 import compare_cards
 
 ROOT = compare_cards.ROOT
-WRITES = os.path.join(ROOT, 'target', 'bin', 'writer_tests')
-DRAWS = os.path.join(ROOT, 'target', 'bin', 'drawcard')
 TESTS = os.path.join(ROOT, 'crates', 'writer_tests')
 PROGRAM = os.path.join(ROOT, 'crates', 'drawcard')
+WRITES = os.path.join(TESTS, 'out', 'writer_tests')  # rt ci makes both, or rt run
+DRAWS = os.path.join(PROGRAM, 'out', 'drawcard')
 ROOM = compare_cards.ROOM
 LARGEST, FURTHEST = compare_cards.LARGEST, compare_cards.FURTHEST
 USAGE = 'usage: drawcard SEED S N D, each a number in decimal from 0 to 4294967295\n'
