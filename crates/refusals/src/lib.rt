@@ -4,6 +4,95 @@
 
 ghost use Rattle.std.specs.Prelude.{◌≡◌};
 ghost use Rattle.refusals.specs.Numbers.{is_among, card_numbers};
+ghost use Rattle.refusals.specs.Refusals.{number_of, Decodes};
+
+use std::error::Error;
+use std::fmt;
+
+// ---- why a call refuses
+
+// Why a call refuses.
+#[derive(Clone, Copy, Debug, PartialEq, Eq)]
+pub enum Refusal {
+    WrongLength = 1, // the card is shorter or longer than it says, or a list of coefficients is not as long as the degrees say
+    WrongByte = 2, // byte 0 or byte 3 is wrong
+    WrongCount = 3, // s or n is outside its limits
+    WrongOffset = 4, // an offset is other than the place its body begins
+    WrongCoefficient = 5, // a coefficient is outside its limits
+    WrongPoint = 6, // a point is outside its limits or falling
+    Late = 7, // an answer after done or closed; rows wanted before done or after closed
+    BadFirst = 8, // the first answer is below 0 or above 64
+    BadLater = 9, // a later answer is outside −n .. n
+    NoCounts = 10, // a round's answers fit no counts
+    WrongList = 11, // the solver's list is not rising, too long, or not of s polynomials, or there are not as many numbers
+    NoSolution = 12, // the solver's numbers have no solution
+    WrongProduct = 13, // the product number is above 3^s − 1
+    PastLast = 14, // the position is past the last polynomial or row
+    TooShort = 15, // an output slice is too short
+    WrongDegree = 16, // a degree is above 6
+    ZeroTop = 17, // the top coefficient is 0 though the degree is not
+    WrongTerms = 18, // of a polynomial in the plane: over 9 terms, powers above 6 together, terms that do not rise, or a coefficient of 0
+}
+
+// A number that refuses nothing.
+#[derive(Clone, Copy, Debug, PartialEq, Eq)]
+pub struct UnknownNumber(pub u16);
+
+impl Refusal {
+    // The number that a caller gets.
+    pub fn number(self) -> u16
+        ensures { result ≡ number_of self }
+    {
+        self as u16
+    }
+}
+
+impl TryFrom<u16> for Refusal {
+    type Error = UnknownNumber;
+
+    ghost try_from_gives = { Decodes };
+
+    fn try_from(number: u16) -> Result<Self, UnknownNumber> {
+        match number {
+            1 => Ok(Refusal::WrongLength),
+            2 => Ok(Refusal::WrongByte),
+            3 => Ok(Refusal::WrongCount),
+            4 => Ok(Refusal::WrongOffset),
+            5 => Ok(Refusal::WrongCoefficient),
+            6 => Ok(Refusal::WrongPoint),
+            7 => Ok(Refusal::Late),
+            8 => Ok(Refusal::BadFirst),
+            9 => Ok(Refusal::BadLater),
+            10 => Ok(Refusal::NoCounts),
+            11 => Ok(Refusal::WrongList),
+            12 => Ok(Refusal::NoSolution),
+            13 => Ok(Refusal::WrongProduct),
+            14 => Ok(Refusal::PastLast),
+            15 => Ok(Refusal::TooShort),
+            16 => Ok(Refusal::WrongDegree),
+            17 => Ok(Refusal::ZeroTop),
+            18 => Ok(Refusal::WrongTerms),
+            _ => Err(UnknownNumber(number)),
+        }
+    }
+}
+
+// A refusal is printed as its number.
+impl fmt::Display for Refusal {
+    fn fmt<W: fmt::Write>(&self, f: &mut fmt::Formatter<W>) -> fmt::Result {
+        write!(f, "{}", self.number())
+    }
+}
+
+impl fmt::Display for UnknownNumber {
+    fn fmt<W: fmt::Write>(&self, f: &mut fmt::Formatter<W>) -> fmt::Result {
+        write!(f, "no refusal has the number {}", self.0)
+    }
+}
+
+impl Error for Refusal {}
+
+impl Error for UnknownNumber {}
 
 // ---- the numbers that refuse
 
@@ -77,29 +166,22 @@ pub const LONGEST_CARD: usize = 4 // of either kind: a card of points in the pla
 
 // The numbers that refuse a card.
 const CARD_NUMBERS: [u16; 9] = [
-    WRONG_LENGTH,
-    WRONG_BYTE,
-    WRONG_COUNT,
-    WRONG_OFFSET,
-    WRONG_COEFFICIENT,
-    WRONG_POINT,
-    WRONG_DEGREE,
-    ZERO_TOP,
-    WRONG_TERMS,
+    Refusal::WrongLength as u16,
+    Refusal::WrongByte as u16,
+    Refusal::WrongCount as u16,
+    Refusal::WrongOffset as u16,
+    Refusal::WrongCoefficient as u16,
+    Refusal::WrongPoint as u16,
+    Refusal::WrongDegree as u16,
+    Refusal::ZeroTop as u16,
+    Refusal::WrongTerms as u16,
 ];
 
 // Whether a number stands in a list.
 fn is_among(k: u16, list: &[u16]) -> bool
     ensures { result ≡ is_among k list.now }
 {
-    let mut i = 0;
-    while i < list.len() {
-        if list[i] == k {
-            return true;
-        }
-        i += 1;
-    }
-    false
+    list.contains(&k)
 }
 
 // Whether this is one of the numbers that refuse a card.
