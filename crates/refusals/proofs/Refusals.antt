@@ -1,6 +1,7 @@
 -- Laws of the refusals and their numbers.
-use Rattle.std.proofs.Common.{◌≡◌, List, [], ◌∷◌, ℕ, zero, suc, ◌+◌, ◌-◌, ◌<◌, ◌≤◌, length, get_or, refl, ◌∙◌, arith}
-use Rattle.refusals.specs.Refusals.{number_of, refusals, by_number}
+use Rattle.std.proofs.Common.{◌≡◌, ◌≢◌, Bool, true, false, List, [], ◌∷◌, ℕ, zero, suc, ◌+◌, ◌-◌, ◌<◌, ◌≤◌, length, get_or, Result, Ok, Err, refl, sym, ◌∙◌, arith}
+use Rattle.refusals.specs.Numbers.{◌when◌, ◌▸◌, unless}
+use Rattle.refusals.specs.Refusals.{number_of, refusals, by_number, refusing, checked}
 use Rattle.refusals.specs.declared.Refusal.{Refusal}
 use Rattle.refusals.specs.declared.Refusal.TheVariants.{WrongLength, WrongByte, WrongCount, WrongOffset, WrongCoefficient, WrongPoint, Late, BadFirst, BadLater, NoCounts, WrongList, NoSolution, WrongProduct, PastLast, TooShort, WrongDegree, ZeroTop, WrongTerms}
 
@@ -43,3 +44,65 @@ pub number_by : (m : ℕ) → 0 < m → m ≤ 18 → number_of (by_number m) ≡
 number_by m h i =
     numbered_at refusals 1 (m - 1) all_numbered (omega arith)
     ∙ omega arith
+
+-- ---- what a check gives, and a call that comes after it
+
+-- a check that passes finds no cause, and one that finds none passes
+pub passed_none : (m : ℕ) {u : Unit {0}} → Ok u ≡ checked m → m ≡ 0
+passed_none zero e = refl
+passed_none (suc m) e = cc
+
+pub none_passes : (m : ℕ) → m ≡ 0 → Ok tt ≡ checked m
+none_passes m e = rw e refl
+
+-- a check that refuses finds a cause, and gives its number's refusal
+pub refused_some : (m : ℕ) {e : Refusal} → Err e ≡ checked m → m ≢ 0
+refused_some zero e z = cc
+refused_some (suc m) e z = absurd (omega arith)
+
+pub refused_by : (m : ℕ) {e : Refusal} → Err e ≡ checked m → e ≡ by_number m
+refused_by zero e = cc
+refused_by (suc m) e = cc
+
+pub some_refuses : (m : ℕ) → m ≢ 0 → refusing m ≡ checked m
+some_refuses zero h = absurd (h refl)
+some_refuses (suc m) h = refl
+
+-- one cause, that holds or does not
+pub cause_refuses : (m : ℕ) (t : Bool) → t ≡ true → refusing (suc m) ≡ checked (suc m when t)
+cause_refuses m t e = rw e refl
+
+pub cause_passes : (m : ℕ) (t : Bool) → t ≡ false → Ok tt ≡ checked (m when t)
+cause_passes m t e = rw e refl
+
+-- what is given where a number refuses, and where none does
+module _ {A : Type 0} (f : ℕ → A) (a : A) where
+  pub unless_none : (m : ℕ) → m ≡ 0 → unless m f a ≡ a
+  unless_none m e = rw e refl
+
+  pub unless_some : (m : ℕ) → m ≢ 0 → unless m f a ≡ f m
+  unless_some zero h = absurd (h refl)
+  unless_some (suc m) h = refl
+
+  -- causes in order: the first refuses, or the next is asked
+  pub unless_first : (m k : ℕ) → m ≢ 0 → unless (m ▸ k) f a ≡ f m
+  unless_first zero k h = absurd (h refl)
+  unless_first (suc m) k h = refl
+
+  pub unless_then : (m k : ℕ) → m ≡ 0 → unless (m ▸ k) f a ≡ unless k f a
+  unless_then m k e = rw e refl
+
+-- a call that passes the refusal of a check on, and one that goes on where it passed
+module _ {A : Type 0} (m : ℕ) where
+  pub passed_on : {e : Refusal} → Err e ≡ checked m → (a : Result A Refusal) → Err e ≡ unless m refusing a
+  passed_on h a = rw (refused_by m h) (sym (unless_some refusing a m (refused_some m h)))
+
+  pub gone_on : {u : Unit {0}} → Ok u ≡ checked m → (a : Result A Refusal) → a ≡ unless m refusing a
+  gone_on h a = sym (unless_none refusing a m (passed_none m h))
+
+  -- of a check that is followed by other causes, k
+  pub passed_on_first : (k : ℕ) {e : Refusal} → Err e ≡ checked m → (a : Result A Refusal) → Err e ≡ unless (m ▸ k) refusing a
+  passed_on_first k h a = rw (refused_by m h) (sym (unless_first refusing a m k (refused_some m h)))
+
+  pub gone_on_then : (k : ℕ) {u : Unit {0}} → Ok u ≡ checked m → (a : Result A Refusal) → unless k refusing a ≡ unless (m ▸ k) refusing a
+  gone_on_then k h a = sym (unless_then refusing a m k (passed_none m h))
