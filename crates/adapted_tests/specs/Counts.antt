@@ -1,8 +1,8 @@
 -- How far the file is compared.
 --
 --   Counted p     == no more was counted than bytes were passed, and no more differs than was compared
---   Further p q n == q is counted, and is as far as p or further, within n bytes
-use Rattle.std.specs.Prelude.{ℕ, ◌≤◌}
+--   Further p q n == q is counted, and is further than p, within n bytes
+use Rattle.std.specs.Prelude.{ℕ, ◌≤◌, ◌<◌}
 use Rattle.adapted_tests.specs.declared.Progress.{Progress}
 
 pub record Counted (p : Progress) : Type 0 where
@@ -13,5 +13,5 @@ pub record Counted (p : Progress) : Type 0 where
 
 pub record Further (p q : Progress) (n : ℕ) : Type 0 where
   pub counted : Counted q
-  pub onward : p.at ≤ q.at
+  pub onward : p.at < q.at
   pub within : q.at ≤ n

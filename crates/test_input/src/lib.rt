@@ -54,75 +54,61 @@ pub fn read_argument(rt: &(impl Env + Files + Eprint), i: usize, out: &mut [u8])
     }
 }
 
+// The bytes from a place on: none past the end.
+fn after(file: &[u8], at: usize) -> &[u8] {
+    file.get(at..).unwrap_or(&[])
+}
+
+// The number in the first two bytes, high byte first.
+fn first_pair(bytes: &[u8]) -> u16 {
+    match bytes {
+        [high, low, ..] => u16::from_be_bytes([*high, *low]),
+        [high] => u16::from_be_bytes([*high, 0]),
+        [] => 0,
+    }
+}
+
 // A byte as a wider number.
 pub fn wide(x: u8) -> usize
     ensures { result < 256 }
 {
-    x as usize
+    usize::from(x)
 }
 
 // The byte at a place.
 pub fn byte(file: &[u8], at: usize) -> usize
     ensures { result < 256 }
 {
-    if at < file.len() {
-        return wide(file[at]);
-    }
-    0
+    file.get(at).map_or(0, |x| usize::from(*x))
 }
 
 // The number in the two bytes at a place, high byte first.
 pub fn pair(file: &[u8], at: usize) -> usize
     ensures { result < 65536 }
 {
-    if at < file.len() {
-        return 256 * wide(file[at]) + byte(file, at + 1);
-    }
-    0
-}
-
-// The place n bytes after another, or the end of the file.
-fn after(file: &[u8], at: usize, n: usize) -> usize {
-    if file.len() <= at {
-        return at;
-    }
-    if file.len() - at < n {
-        return file.len();
-    }
-    at + n
+    usize::from(first_pair(after(file, at)))
 }
 
 // Puts the n numbers of two bytes from a place on into out.
 pub fn read_pairs(file: &[u8], at: usize, n: usize, out: &mut [u16])
     requires { n ≤ length out.old }
 {
-    let mut place = at;
-    let mut k = 0;
-    while k < n {
-        out[k] = pair(file, place) as u16;
-        place = after(file, place, 2);
-        k += 1;
+    let mut bytes = after(file, at);
+    for number in &mut out[..n] {
+        *number = first_pair(bytes);
+        bytes = after(bytes, 2);
     }
-}
-
-// The number of two bytes at a place where k is below n, and `rest` where it is not.
-fn pair_or(file: &[u8], at: usize, k: usize, n: usize, rest: u16) -> u16 {
-    if k < n {
-        return pair(file, at) as u16;
-    }
-    rest
 }
 
 // Whether a list is the n numbers of two bytes from a place on, and `rest` everywhere after them.
 pub fn are_pairs(file: &[u8], at: usize, n: usize, rest: u16, list: &[u16]) -> bool {
-    let mut place = at;
-    let mut k = 0;
-    while k < list.len() {
-        if list[k] != pair_or(file, place, k, n, rest) {
+    let (numbers, others) = list.split_at(n.min(list.len()));
+    let mut bytes = after(file, at);
+    for number in numbers {
+        if *number != first_pair(bytes) {
             return false;
         }
-        place = after(file, place, 2);
-        k += 1;
+        bytes = after(bytes, 2);
     }
-    true
+    others.iter().all(|x| *x == rest)
 }

@@ -1,10 +1,6 @@
--- `adapted_tests::balance` is safe: after k patterns the sum is at most k away from 64.
-use Prim.Native.Nat.{◌≤◌, ◌-◌, ◌+◌}
-use lib.ListN.{length}
+-- `adapted_tests::balance` is safe: after some patterns the sum is at most as many away from 64.
+use Rattle.std.proofs.Common.{◌≤◌, ◌+◌}
 use Rattle.adapted_tests.proofs.balance.Given as goal
 
-abbrev pub invariant-loop-k : goal.invariant-loop-k
-invariant-loop-k l = (l.k ≤ length l.patterns) × (l.sum ≤ 64 + l.k) × (64 ≤ l.sum + l.k)
-
-abbrev pub decreases-loop-k : goal.decreases-loop-k
-decreases-loop-k l = length l.patterns - l.k
+abbrev pub invariant-loop-number : goal.invariant-loop-number
+invariant-loop-number l = (l.sum ≤ 64 + l.number-index) × (64 ≤ l.sum + l.number-index)

@@ -1,15 +1,9 @@
--- `adapted_tests::list_agrees` is safe: the adapted list is as long as the list of the patterns.
-use Prim.Native.Nat.{◌^◌, ◌≤◌}
-use native.Mathlib.Omega.{arith}
-use native.Mathlib.Nat.{pow-le-pow_right}
-use borrow.Author.Rules.{rules}
+-- `adapted_tests::list_agrees` is safe: the product numbers of eight polynomials are below 3^8.
+use Rattle.std.proofs.Common.{◌^◌, ◌≤◌, arith}
+use Rattle.std.proofs.Math.Nat.{pow-le-pow_right}
 use Rattle.adapted_tests.proofs.list_agrees.Goals as goal
 
-pub adapted-n-requires : goal.adapted-n-requires
-adapted-n-requires c =
+pub adapted-n-requires-clause-i_le_most_polynomials : goal.adapted-n-requires-clause-i_le_most_polynomials
+adapted-n-requires-clause-i_le_most_polynomials c =
     let most : 3 ^ c.args.s ≤ 6561 = pow-le-pow_right (omega arith) c.requires.s_le_most_polynomials.0 in
-    record {
-      i_le_most_polynomials = (c.requires.s_le_most_polynomials.0, omega arith);
-      rising = (c.requires.s_le_most_polynomials.1, c.requires.s_le_most_polynomials.2);
-      l_len_bound = (c.requires.s_le_most_polynomials.3, search rules);
-    }
+    (c.requires.s_le_most_polynomials.0, omega arith)
