@@ -4,13 +4,13 @@ use Prim.Native.Nat.{ℕ, ◌+◌, ◌^◌, ◌≤◌}
 use lib.IntN.{ℤ, pos, negsuc, nat_abs, ◌+ℤ◌, ◌-ℤ◌, ◌*ℤ◌}
 use lib.Signed.{le_z, quot_z, ◌≤ℤ◌, ◌<ℤ◌}
 use mathlib.Core.Bool.{true}
+use Rattle.std.specs.Prelude.{Some, None}
 use mir.Syntax.{w64}
 use mir.Val.{SFits}
 use Rattle.integers.proofs.Parts.{int, parts, side, sum, dif, times, halved, ne_parts}
 use Rattle.integers.proofs.Ring.{groupℤ, ringℤ}
 use Rattle.integers.proofs.Expr.{‵◌, ◌⊞◌, ◌⊟◌, linear}
 use native.Mathlib.Omega.{arith}
-use Rattle.integers.specs.declared.Half.TheVariants.{Whole, Odd}
 use Rattle.integers.specs.Half.{half_of}
 use Rattle.integers.specs.Range.{is_within}
 use Rattle.integers.proofs.Halves.{half_means, abs_half}
@@ -96,14 +96,14 @@ fits-half : (a : ℤ) → SFits w64 a → nat_abs (quot_z a (pos 2)) ≤ 2 ^ 62
 fits-half a h = omega (int, halved a, parts a, side a, parts (quot_z a (pos 2)))
 
 -- ---- halves and ranges: what a call's promise gives its caller
-half_known : (x h : ℤ) → Whole h ≡ half_of x → h +ℤ h ≡ x
-half_known x h e = half_means x (Whole h) e
+half_known : (x h : ℤ) → Some h ≡ half_of x → h +ℤ h ≡ x
+half_known x h e = half_means x (Some h) e
 
-half-within : (x h : ℤ) (k : ℕ) → Whole h ≡ half_of x → nat_abs x ≤ k + k → nat_abs h ≤ k
-half-within x h k e b = let d = half_means x (Whole h) e in omega (arith, abs_half x h d)
+half-within : (x h : ℤ) (k : ℕ) → Some h ≡ half_of x → nat_abs x ≤ k + k → nat_abs h ≤ k
+half-within x h k e b = let d = half_means x (Some h) e in omega (arith, abs_half x h d)
 
-no_half : (x : ℤ) → Odd ≡ half_of (x +ℤ x) → ⊥
-no_half x e = half_means (x +ℤ x) Odd e x refl
+no_half : (x : ℤ) → None ≡ half_of (x +ℤ x) → ⊥
+no_half x e = half_means (x +ℤ x) None e x refl
 
 in_range : (x : ℤ) → is_within x (pos 64) ≡ true → nat_abs x ≤ 64
 in_range x t = let e = within_abs x 64 in omega (int, sym e ∙ t)

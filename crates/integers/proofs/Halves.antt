@@ -1,16 +1,15 @@
 -- Exact halves: what `half_of` means.
 --
--- A call promises  r ≡ half_of x,  and a match tells  r ≡ Whole h  or  r ≡ Odd:  `half_means` turns the first into  IsHalf x r.
+-- A call promises  r ≡ half_of x,  and a match tells  r ≡ Some h  or  r ≡ None:  `half_means` turns the first into  IsHalf x r.
 use mathlib.Core.Path.{◌≡◌, refl, sym, ap, subst}
 use mathlib.Core.Logic.{◌↔◌, ◌⊎◌, inl, inr}
 use mathlib.Core.Bool.{true, false}
+use Rattle.std.specs.Prelude.{Option, Some, None}
 use Prim.Native.Nat.{◌+◌, ◌%◌}
 use native.Mathlib.Omega.{arith}
 use borrow.Author.Tests.{eqb-true, eqb-false}
 use lib.IntN.{ℤ, pos, nat_abs, ◌+ℤ◌}
 use lib.Signed.{quot_z}
-use Rattle.integers.specs.declared.Half.{Half}
-use Rattle.integers.specs.declared.Half.TheVariants.{Whole, Odd}
 use Rattle.integers.specs.Half.{is_even, half_of, IsHalf}
 use Rattle.integers.proofs.Parts.{int, parts, side, sum, halved}
 use Rattle.integers.proofs.Tests.{bool_cases}
@@ -34,21 +33,21 @@ half_is x = go (bool_cases (is_even x))
     go (inr t) = rw t (λ h d. even_false x t (omega (int, parts x, side x, sum h h)))
 
 -- and no other answer is
-pub half_unique : (x : ℤ) (r s : Half) → IsHalf x r → IsHalf x s → r ≡ s
-half_unique x (Whole h) (Whole k) p q = ap Whole (omega (int, sum h h, sum k k))
-half_unique x (Whole h) Odd p q = absurd (q h p)
-half_unique x Odd (Whole k) p q = absurd (p k q)
-half_unique x Odd Odd p q = refl
+pub half_unique : (x : ℤ) (r s : Option ℤ) → IsHalf x r → IsHalf x s → r ≡ s
+half_unique x (Some h) (Some k) p q = ap Some (omega (int, sum h h, sum k k))
+half_unique x (Some h) None p q = absurd (q h p)
+half_unique x None (Some k) p q = absurd (p k q)
+half_unique x None None p q = refl
 
-pub half_means : (x : ℤ) (r : Half) → r ≡ half_of x → IsHalf x r
+pub half_means : (x : ℤ) (r : Option ℤ) → r ≡ half_of x → IsHalf x r
 half_means x r e = subst (IsHalf x) (sym e) (half_is x)
 
--- ---- the answer is `Whole h` exactly where h + h is x, and `Odd` exactly where no h has this
-pub whole_iff : (x h : ℤ) → half_of x ≡ Whole h ↔ h +ℤ h ≡ x
-whole_iff x h = (λ e. half_means x (Whole h) (sym e), λ p. half_unique x (half_of x) (Whole h) (half_is x) p)
+-- ---- the answer is `Some h` exactly where h + h is x, and `None` exactly where no h has this
+pub whole_iff : (x h : ℤ) → half_of x ≡ Some h ↔ h +ℤ h ≡ x
+whole_iff x h = (λ e. half_means x (Some h) (sym e), λ p. half_unique x (half_of x) (Some h) (half_is x) p)
 
-pub odd_iff : (x : ℤ) → half_of x ≡ Odd ↔ ((h : ℤ) → h +ℤ h ≡ x → ⊥)
-odd_iff x = (λ e. half_means x Odd (sym e), λ p. half_unique x (half_of x) Odd (half_is x) p)
+pub odd_iff : (x : ℤ) → half_of x ≡ None ↔ ((h : ℤ) → h +ℤ h ≡ x → ⊥)
+odd_iff x = (λ e. half_means x None (sym e), λ p. half_unique x (half_of x) None (half_is x) p)
 
 -- ---- sizes
 pub abs_half : (x h : ℤ) → h +ℤ h ≡ x → nat_abs h + nat_abs h ≡ nat_abs x

@@ -10,8 +10,8 @@ use Rattle.integers.specs.Range.{is_within}
 use Rattle.integers.proofs.Parts.{int, parts, side, neg, same_test}
 use Rattle.integers.proofs.Tests.{is_true, is_false}
 
--- the two tests, as one: taken or failed
-both : (a b : Bool) → a && b ≡ true → (a ≡ true) × (b ≡ true)
+-- two tests, as one
+pub both : (a b : Bool) → a && b ≡ true → (a ≡ true) × (b ≡ true)
 both true true e = (refl, refl)
 both true false e = absurd (false≢true e)
 both false b e = absurd (false≢true e)

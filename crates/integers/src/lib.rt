@@ -6,44 +6,27 @@ ghost use Rattle.std.specs.Prelude.{◌≡◌, ◌+◌, ◌≤◌, nat_abs, ◌+
 ghost use Rattle.integers.specs.Half.{half_of};
 ghost use Rattle.integers.specs.Range.{is_within};
 
-// Half of an integer that is even, or that it is odd.
-#[derive(Clone, Copy)]
-pub enum Half {
-    Whole(i64),
-    Odd,
-}
-
-// The absolute value of x. The least number has one too, though its negation is no `i64`: one is added before the sign is turned, and again after.
+// The absolute value of x. The least number has one too, though its negation is no `i64`.
 pub fn magnitude(x: i64) -> u64
     ensures { result ≡ nat_abs x }
 {
-    if x < 0 {
-        let y = 0 - (x + 1);
-        (y as u64) + 1
-    } else {
-        x as u64
-    }
+    x.unsigned_abs()
 }
 
-// The number of which x is the double, or `Odd` where there is none. Nothing is rounded.
-pub fn halve(x: i64) -> Half
+// The number of which x is the double, where there is one. Nothing is rounded.
+#[tactic(auto, using(std::proofs::lemmas::Int::ints, std::proofs::lemmas::Bool::Decides::nat_tests), unfolding(crate::specs::Half::is_even, crate::specs::Half::half_of))]
+pub fn halve(x: i64) -> Option<i64>
     ensures { result ≡ half_of x }
 {
-    if x % 2 == 0 {
-        Half::Whole(x / 2)
-    } else {
-        Half::Odd
-    }
+    if x % 2 == 0 { Some(x / 2) } else { None }
 }
 
 // Whether −n ≤ x ≤ n. For a negative n this is false, and n is not negated.
+#[tactic(auto, using(std::proofs::lemmas::Int::ints, std::proofs::lemmas::Bool::Decides::nat_tests), unfolding(crate::specs::Range::is_within))]
 pub fn within(x: i64, n: i64) -> bool
     ensures { result ≡ is_within x n }
 {
-    if n < 0 {
-        return false;
-    }
-    0 - n <= x && x <= n
+    0 <= n && -n <= x && x <= n
 }
 
 // A number of 16 bits as one of 64, and back.
