@@ -22,9 +22,10 @@ use Rattle.card.specs.Card.{refusal, position_refusal, kind_refusal, place_refus
 use Rattle.card.specs.Sound.{Sound}
 use Rattle.card.specs.Answers.{reading, stretch, body, start, value_answer, value_at_answer}
 use Rattle.card.specs.Claim.{CardGives, LineGives, PlaceGives, Near, ReadGives, LocateGives, ValueGives, ValueAtGives, BodyGives}
-use Rattle.card.specs.declared.Card.{Card}
+use Rattle.std.proofs.Common.{Result}
+use Rattle.refusals.specs.declared.Refusal.{Refusal}
+use Rattle.card.specs.declared.Shape.{Shape}
 use Rattle.card.specs.declared.Stretch.{Stretch}
-use Rattle.card.specs.declared.Evaluated.{Evaluated}
 use Rattle.card.proofs.Sound.{sound, unrefused, sound_headed}
 use Rattle.card.proofs.Positions.{refused-short}
 use Rattle.card.proofs.Listed.{Listed, refusal_listed}
@@ -192,20 +193,20 @@ place-gives_through f g = record {
 -- ---- the calls
 
 module _ (κs : Lfts 1) (card : Bor (List ℕ)) where
-  pub read_gives : (o : Card) → read.Learnt κs (card, tt) o (card, tt) → ReadGives card.now o
+  pub read_gives : (o : Result Shape Refusal) → read.Learnt κs (card, tt) o (card, tt) → ReadGives card.now o
   unfolding reading
   read_gives o e = rw e (gives_all card.now _ _)
 
-  pub locate_gives : (j : ℕ) (o : Stretch) → locate.Learnt κs (card, (j, tt)) o (card, (j, tt)) → LocateGives card.now j o
+  pub locate_gives : (j : ℕ) (o : Result Stretch Refusal) → locate.Learnt κs (card, (j, tt)) o (card, (j, tt)) → LocateGives card.now j o
   unfolding stretch
   locate_gives j o e = rw e (gives_at card.now _ _ j)
 
-  pub value-gives : (j : ℕ) (x : ℤ) (o : Evaluated) → evaluate.Learnt κs (card, (j, (x, tt))) o (card, (j, (x, tt)))
+  pub value-gives : (j : ℕ) (x : ℤ) (o : Result ℤ Refusal) → evaluate.Learnt κs (card, (j, (x, tt))) o (card, (j, (x, tt)))
       → ValueGives card.now j x o
   unfolding value_answer
   value-gives j x o e = rw e (line-gives-at card.now _ _ j)
 
-  pub value-at-gives : (j : ℕ) (x y : ℤ) (o : Evaluated) → evaluate-at.Learnt κs (card, (j, (x, (y, tt)))) o (card, (j, (x, (y, tt))))
+  pub value-at-gives : (j : ℕ) (x y : ℤ) (o : Result ℤ Refusal) → evaluate-at.Learnt κs (card, (j, (x, (y, tt)))) o (card, (j, (x, (y, tt))))
       → ValueAtGives card.now j (x, y) o
   unfolding value_at_answer
   value-at-gives j x y o e = rw e (place-gives-at card.now _ _ j (x, y))

@@ -2,7 +2,7 @@
 --
 --   Held c j    == the card c is sound and has a polynomial at position j
 --   Taken c s n == the card c is sound, with s polynomials and n points
-use mathlib.Core.Path.{◌≡◌, refl, sym, ◌∙◌}
+use mathlib.Core.Path.{◌≡◌, refl, sym, ap, ◌∙◌}
 use mathlib.Core.List.{List}
 use Prim.Native.Nat.{ℕ, zero, suc, ◌+◌, ◌*◌, ◌≤◌, ◌<◌}
 use native.Mathlib.Omega.{arith}
@@ -24,20 +24,15 @@ use Rattle.integers.proofs.Search.{left_false, right_false}
 use Rattle.plane.specs.Format.{Point, plane_point}
 use Rattle.card.specs.Sound.{Sound}
 use Rattle.card.specs.Claim.{Near}
-use Rattle.card.specs.Answers.{reading}
+use Rattle.card.specs.Answers.{shape, reading}
 use Rattle.refusals.specs.Numbers.{◌when◌, ◌▸◌, unless}
-use Rattle.card.specs.declared.Card.TheVariants as Card
+use Rattle.std.proofs.Common.{Ok}
+use Rattle.card.specs.declared.Shape.{Shape}
+use Rattle.refusals.specs.Refusals.{refusing}
 use Rattle.refusals.proofs.Causes.{first_none, then_none, first_some, then_some, holds_not, is_equal}
 use Rattle.card.proofs.Header.{Headed, too_short}
 use Rattle.card.proofs.ByKind.{Fits, fits, unrefused_body}
 use Rattle.card.proofs.Sound.{sound, sound_headed}
-
-pub unless_none : {A : Type 0} (m : ℕ) (f : ℕ → A) (a : A) → m ≡ 0 → unless m f a ≡ a
-unless_none m f a e = rw e
-
-pub unless_number : {A : Type 0} (m : ℕ) (f : ℕ → A) (a : A) → (m ≡ 0 → ⊥) → unless m f a ≡ f m
-unless_number zero f a h = absurd (h refl)
-unless_number (suc m) f a h = refl
 
 pub record Held (c : List ℕ) (j : ℕ) : Type 0 where
   pub header : Headed c
@@ -75,17 +70,6 @@ module _ (c : List ℕ) (j : ℕ) where
 pub of_line : (c : List ℕ) → kind_refusal c ≡ 0 → byte c 0 ≡ 1
 unfolding kind_refusal
 of_line c e = is_equal (byte c 0) 1 (holds_not 1 (not (eqb (byte c 0) 1)) (then_none (1 when ltb (length c) 4) _ e))
-
-module _ {A : Type 0} (c : List ℕ) (m : ℕ) (f : ℕ → A) (a : A) where
-  pub other_card : (kind_refusal c ≡ 0 → ⊥) → unless (kind_refusal c ▸ m) f a ≡ f (kind_refusal c)
-  other_card h = go (kind_refusal c) h
-    where
-      go : (k : ℕ) → (k ≡ 0 → ⊥) → unless (k ▸ m) f a ≡ f k
-      go zero h = absurd (h refl)
-      go (suc k) h = refl
-
-  pub line-card : kind_refusal c ≡ 0 → unless (kind_refusal c ▸ m) f a ≡ unless m f a
-  line-card e = rw e refl
 
 -- ---- a point beside a position
 module _ (c : List ℕ) (j : ℕ) (p : Point) where
@@ -132,13 +116,16 @@ pub record Taken (c : List ℕ) (s n : ℕ) : Type 0 where
   pub s_is : s ≡ polynomials c
   pub n_is : n ≡ point_count c
 
-pub taken : (c : List ℕ) (s n : ℕ) → reading c ≡ Card.Sound s n → Taken c s n
+pub taken : (c : List ℕ) (h : Shape) → reading c ≡ Ok h → Taken c h.polynomials h.points
 unfolding reading
-taken c s n = go (refusal c) refl
+taken c h = go (refusal c) refl
   where
-    go : (m : ℕ) → refusal c ≡ m → unless m Card.Refused (Card.Sound (polynomials c) (point_count c)) ≡ Card.Sound s n → Taken c s n
-    go zero r e = record { card = sound c r; s_is = cc; n_is = cc }
-    go (suc m) r e = let z : ◌≡◌ {A = ℕ} 0 1 = cc in absurd (omega arith)
+    go : (m : ℕ) → refusal c ≡ m → unless m refusing (Ok (shape c)) ≡ Ok h → Taken c h.polynomials h.points
+    go zero r e = record { card = sound c r; s_is = ap Shape.polynomials same; n_is = ap Shape.points same }
+      where
+        same : h ≡ shape c
+        same = cc
+    go (suc m) r e = cc
 
 -- ---- what the calls of `layout` and `plane` ask of a sound card
 module _ (c : List ℕ) (s : Sound c) where

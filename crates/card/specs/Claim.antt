@@ -15,7 +15,7 @@
 --   Near p                           == X and Y of the point p are from −100 to 100
 --   BodyGives c j base l at          == `body`: the bytes l from the place `at` in memory, where the card begins at the place base: those
 --                                       of the body, where they stand on the card; none where the card or j is refused
-use Rattle.std.specs.Prelude.{◌≡◌, ◌≢◌, ◌⊎◌, List, [], ℕ, ◌+◌, ◌≤◌, ◌<◌, ℤ, nat_abs, length, take, drop}
+use Rattle.std.specs.Prelude.{◌≡◌, ◌≢◌, ◌⊎◌, List, [], ℕ, ◌+◌, ◌≤◌, ◌<◌, ℤ, Result, Ok, nat_abs, length, take, drop}
 use Rattle.refusals.specs.Numbers.{card_numbers, Among}
 use Rattle.layout.specs.Format.{byte, polynomials, point_count, offset}
 use Rattle.layout.specs.Values.{value}
@@ -24,12 +24,10 @@ use Rattle.plane.specs.Contents.{value_at}
 use Rattle.card.specs.Kinds.{body_size}
 use Rattle.card.specs.Card.{refusal}
 use Rattle.card.specs.Sound.{Sound}
-use Rattle.card.specs.declared.Card.{Card}
-use Rattle.card.specs.declared.Card.TheVariants as of-card
+use Rattle.card.specs.declared.Shape.{Shape}
 use Rattle.card.specs.declared.Stretch.{Stretch}
-use Rattle.card.specs.declared.Stretch.TheVariants as of-stretch
-use Rattle.card.specs.declared.Evaluated.{Evaluated}
-use Rattle.card.specs.declared.Evaluated.TheVariants as of-value
+use Rattle.refusals.specs.declared.Refusal.{Refusal}
+use Rattle.refusals.specs.Refusals.{refusing}
 
 pub record CardGives {A : Type 0} (c : List ℕ) (In : Type 0) (m : ℕ) (refused : ℕ → A) (shown o : A) : Type 0 where
   pub inside : Sound c → In → o ≡ shown
@@ -48,22 +46,21 @@ pub record PlaceGives {A : Type 0} (c : List ℕ) (In : Type 0) (m : ℕ) (In' :
   pub outside' : Sound c → In → (In' → ⊥) → o ≡ refused m'
   pub unsound : (Sound c → ⊥) → Among card_numbers (refusal c) × (o ≡ refused (refusal c))
 
-abbrev pub ReadGives : List ℕ → Card → Type 0
-ReadGives c o = CardGives c (Unit {0}) 0 of-card.Refused (of-card.Sound (polynomials c) (point_count c)) o
+abbrev pub ReadGives : List ℕ → Result Shape Refusal → Type 0
+ReadGives c o = CardGives c (Unit {0}) 0 refusing (Ok (record { polynomials = polynomials c; points = point_count c })) o
 
-abbrev pub LocateGives : List ℕ → ℕ → Stretch → Type 0
+abbrev pub LocateGives : List ℕ → ℕ → Result Stretch Refusal → Type 0
 LocateGives c j o =
-    CardGives c (j < polynomials c) 14 of-stretch.Refused (of-stretch.At (offset c j) (body_size c (offset c j))) o
+    CardGives c (j < polynomials c) 14 refusing (Ok (record { start = offset c j; len = body_size c (offset c j) })) o
 
-abbrev pub ValueGives : List ℕ → ℕ → ℤ → Evaluated → Type 0
-ValueGives c j x o = LineGives c (j < polynomials c) 14 of-value.Refused (of-value.Value (value c (offset c j) x)) o
+abbrev pub ValueGives : List ℕ → ℕ → ℤ → Result ℤ Refusal → Type 0
+ValueGives c j x o = LineGives c (j < polynomials c) 14 refusing (Ok (value c (offset c j) x)) o
 
 abbrev pub Near : Point → Type 0
 Near p = (nat_abs p.0 ≤ 100) × (nat_abs p.1 ≤ 100)
 
-abbrev pub ValueAtGives : List ℕ → ℕ → Point → Evaluated → Type 0
-ValueAtGives c j p o =
-    PlaceGives c (j < polynomials c) 14 (Near p) 6 of-value.Refused (of-value.Value (value_at c (offset c j) p)) o
+abbrev pub ValueAtGives : List ℕ → ℕ → Point → Result ℤ Refusal → Type 0
+ValueAtGives c j p o = PlaceGives c (j < polynomials c) 14 (Near p) 6 refusing (Ok (value_at c (offset c j) p)) o
 
 abbrev pub BodyGives : List ℕ → ℕ → ℕ → List ℕ → ℕ → Type 0
 BodyGives c j base l at =

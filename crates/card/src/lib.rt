@@ -11,86 +11,64 @@ ghost use Rattle.card.specs.Sound.{Sound};
 ghost use Rattle.card.specs.Claim.{Near};
 ghost use Rattle.card.specs.Answers.{reading, stretch, body, start, value_answer, value_at_answer};
 
-use refusals::NONE;
+use refusals::Refusal;
 
-// What a card holds: s polynomials and n points, or the number that refuses it.
-#[derive(Clone, Copy)]
-pub enum Card {
-    Sound { s: usize, n: usize },
-    Refused(u16),
+// What a card holds: how many polynomials and how many points.
+#[derive(Clone, Copy, Debug, PartialEq, Eq)]
+pub struct Shape {
+    pub polynomials: usize,
+    pub points: usize,
 }
 
-// Where the body of a polynomial stands on a card, or the number that refuses the card or the position.
-#[derive(Clone, Copy)]
-pub enum Stretch {
-    At { start: usize, len: usize },
-    Refused(u16),
+// Where the body of a polynomial stands on a card.
+#[derive(Clone, Copy, Debug, PartialEq, Eq)]
+pub struct Stretch {
+    pub start: usize,
+    pub len: usize,
 }
 
-// The value of a polynomial, or the number that refuses the card or the position.
-#[derive(Clone, Copy)]
-pub enum Evaluated {
-    Value(i64),
-    Refused(u16),
-}
-
-// Reads the header of a card: s and n where the whole card is sound, else the number of the first cause in the card's order.
-pub fn read(card: &[u8]) -> Card
+// Reads the header of a card: s and n where the whole card is sound, else the first cause in the card's order.
+pub fn read(card: &[u8]) -> Result<Shape, Refusal>
     ensures { result ≡ reading card.now }
 {
-    let number = reader::refusal(card);
-    if number != NONE {
-        return Card::Refused(number);
-    }
-    Card::Sound {
-        s: layout::wide(card[1]),
-        n: layout::wide(card[2]),
-    }
+    reader::check_card(card)?;
+    Ok(Shape {
+        polynomials: usize::from(card[1]),
+        points: usize::from(card[2]),
+    })
 }
 
-// Where the body of polynomial j stands, j counted from 0. A refused card has its own number; then a position past the last polynomial has 14.
-pub fn locate(card: &[u8], j: usize) -> Stretch
+// Where the body of polynomial j stands, j counted from 0. A refused card has its own cause; then a position past the last polynomial has `PastLast`.
+pub fn locate(card: &[u8], j: usize) -> Result<Stretch, Refusal>
     ensures { result ≡ stretch card.now j }
 {
-    let number = reader::check_position(card, j);
-    if number != NONE {
-        return Stretch::Refused(number);
-    }
+    reader::check_position(card, j)?;
     let start = layout::offset(card, j);
-    Stretch::At {
+    Ok(Stretch {
         start,
         len: reader::body_size(card, start),
-    }
+    })
 }
 
-// The body of polynomial j, its first byte first, as that stretch of the card itself. It is empty where the card or j is refused: `locate` has the number.
+// The body of polynomial j, its first byte first, as that stretch of the card itself. It is empty where the card or j is refused: `locate` has the cause.
 pub fn body(card: &[u8], j: usize) -> &[u8]
     ensures { (result.now ≡ body card.now j) × (result.ref_ptr.0 ≡ card.entry.ref_ptr.0) × (result.ref_ptr.1 ≡ card.entry.ref_ptr.1 + start card.now j) }
 {
-    let number = reader::check_position(card, j);
-    if number != NONE {
-        return &card[..0];
+    match locate(card, j) {
+        Ok(Stretch { start, len }) => &card[start..start + len],
+        Err(_) => &card[..0],
     }
-    let from = layout::offset(card, j);
-    let to = from + reader::body_size(card, from);
-    &card[from..to]
 }
 
-// The value of polynomial j at x, on a card of points on the line. Any other card has 2, where byte 0 is checked; a refused card has its own number; then
-// a position past the last polynomial has 14.
-pub fn value(card: &[u8], j: usize, x: i8) -> Evaluated
+// The value of polynomial j at x, on a card of points on the line. Any other card has `WrongByte`, where byte 0 is checked; a refused card has its own
+// cause; then a position past the last polynomial has `PastLast`.
+pub fn value(card: &[u8], j: usize, x: i8) -> Result<i64, Refusal>
     ensures { result ≡ value_answer card.now j x }
 {
-    let kind = reader::check_kind(card);
-    if kind != NONE {
-        return Evaluated::Refused(kind);
-    }
-    let number = reader::check_position(card, j);
-    if number != NONE {
-        return Evaluated::Refused(number);
-    }
+    reader::check_kind(card)?;
+    reader::check_position(card, j)?;
     let p = layout::coefficients(card, layout::offset(card, j));
-    Evaluated::Value(polynomials::evaluate(&p, x as i64))
+    Ok(polynomials::evaluate(&p, i64::from(x)))
 }
 
 // The value of polynomial j of a sound card at the point (x, y).
@@ -106,14 +84,11 @@ fn evaluate(card: &[u8], j: usize, x: i64, y: i64) -> i64
     polynomials::evaluate(&p, x)
 }
 
-// The value of polynomial j at the point (x, y), on a card of either kind: a polynomial in X alone has its value at x. A refused card has its own number;
-// then a position past the last polynomial has 14; then a point with x or y outside −100 to 100 has 6.
-pub fn value_at(card: &[u8], j: usize, x: i64, y: i64) -> Evaluated
+// The value of polynomial j at the point (x, y), on a card of either kind: a polynomial in X alone has its value at x. A refused card has its own cause;
+// then a position past the last polynomial has `PastLast`; then a point with x or y outside −100 to 100 has `WrongPoint`.
+pub fn value_at(card: &[u8], j: usize, x: i64, y: i64) -> Result<i64, Refusal>
     ensures { result ≡ value_at_answer card.now j (x, y) }
 {
-    let number = reader::check_place(card, j, x, y);
-    if number != NONE {
-        return Evaluated::Refused(number);
-    }
-    Evaluated::Value(evaluate(card, j, x, y))
+    reader::check_place(card, j, x, y)?;
+    Ok(evaluate(card, j, x, y))
 }

@@ -1,11 +1,12 @@
-// The checks of a card of points in the plane, of one polynomial and of the points, in the card's order (document 02, wish 6). Each answers the number
-// of the first cause, or 0. The crate `card` has the checks of the header, the contents and the offsets, and those of a card of points on the line.
+// The checks of a card of points in the plane, of one polynomial and of the points, in the card's order (document 02, wish 6). Each refuses by
+// the first cause. The crate `card` has the checks of the header, the contents and the offsets, and those of a card of points on the line.
 //
 // Some functions have a `requires`: they are for the crate above, whose calls show it.
 #![tactic(auto)]
 
 ghost use Rattle.std.specs.Prelude.{◌≡◌, ◌+◌, ◌*◌, ◌≤◌, length};
 ghost use Rattle.refusals.specs.Numbers.{wrong_terms, wrong_coefficient, ◌when◌};
+ghost use Rattle.refusals.specs.Refusals.{checked};
 ghost use Rattle.refusals.specs.Limits.{most_coefficient};
 ghost use Rattle.integers.specs.Search.{any_below, outside};
 ghost use Rattle.layout.specs.Format.{point_count};
@@ -14,9 +15,9 @@ ghost use Rattle.plane.specs.Body.{WholePlane};
 ghost use Rattle.plane_checks.specs.Checks.{wrong_term, plane_refusal, plane_points_refusal};
 
 use integers::within;
-use layout::{point, too_large, wide};
+use layout::{point, too_large};
 use plane::{size, word, x_power, y_power};
-use refusals::{MOST_DEGREE, NONE, WRONG_COEFFICIENT, WRONG_LENGTH, WRONG_POINT, WRONG_TERMS};
+use refusals::{MOST_DEGREE, Refusal};
 
 // The limits, as bytes and signed numbers of a card have them.
 const MOST_TERMS: u8 = refusals::MOST_TERMS as u8;
@@ -29,102 +30,81 @@ const TERM_STRIDE: usize = 256;
 const POINT_STRIDE: i64 = 256;
 
 // The terms of the polynomial whose body begins at byte at: powers that are together at most 6, rising terms, no coefficient of 0.
-fn check_terms(card: &[u8], at: usize) -> u16
+fn check_terms(card: &[u8], at: usize) -> Result<(), Refusal>
     requires { WholePlane card.now at }
-    ensures { result ≡ (wrong_terms when any_below (wrong_term card.now at) (term_count card.now at)) }
+    ensures { result ≡ checked (wrong_terms when any_below (wrong_term card.now at) (term_count card.now at)) }
 {
-    let t = wide(card[at]);
     let mut least = 0;
-    let mut i = 0;
-    while i < t {
+    for i in 0..usize::from(card[at]) {
         let a = x_power(card, at, i);
         let b = y_power(card, at, i);
-        if MOST_DEGREE < a + b {
-            return WRONG_TERMS;
-        }
         let place = TERM_STRIDE * a + b;
-        if place < least {
-            return WRONG_TERMS;
-        }
-        if word(card, at, i) == 0 {
-            return WRONG_TERMS;
+        if MOST_DEGREE < a + b || place < least || word(card, at, i) == 0 {
+            return Err(Refusal::WrongTerms);
         }
         least = place + 1;
-        i += 1;
     }
-    NONE
+    Ok(())
 }
 
 // Its coefficients: each within its limits.
-fn check_limits(card: &[u8], at: usize) -> u16
+fn check_limits(card: &[u8], at: usize) -> Result<(), Refusal>
     requires { WholePlane card.now at }
-    ensures { result ≡ (wrong_coefficient when any_below (λ i. outside most_coefficient (term_coefficient card.now at i)) (term_count card.now at)) }
+    ensures { result ≡ checked (wrong_coefficient when any_below (λ i. outside most_coefficient (term_coefficient card.now at i)) (term_count card.now at)) }
 {
-    let t = wide(card[at]);
-    let mut i = 0;
-    while i < t {
+    for i in 0..usize::from(card[at]) {
         if too_large(word(card, at, i)) {
-            return WRONG_COEFFICIENT;
+            return Err(Refusal::WrongCoefficient);
         }
-        i += 1;
     }
-    NONE
+    Ok(())
 }
 
 // One polynomial, whose body begins at byte at.
-pub fn check_polynomial(card: &[u8], at: usize) -> u16
-    ensures { result ≡ plane_refusal card.now at }
+pub fn check_polynomial(card: &[u8], at: usize) -> Result<(), Refusal>
+    ensures { result ≡ checked (plane_refusal card.now at) }
 {
     if card.len() <= at {
-        return WRONG_LENGTH;
+        return Err(Refusal::WrongLength);
     }
     if MOST_TERMS < card[at] {
-        return WRONG_TERMS;
+        return Err(Refusal::WrongTerms);
     }
     if card.len() < at + size(card, at) {
-        return WRONG_LENGTH;
+        return Err(Refusal::WrongLength);
     }
-    let number = check_terms(card, at);
-    if number != NONE {
-        return number;
-    }
+    check_terms(card, at)?;
     check_limits(card, at)
 }
 
 // The points, which begin at byte at: X and Y of each within their limits, none below the one before it.
-fn check_points(card: &[u8], at: usize) -> u16
+fn check_points(card: &[u8], at: usize) -> Result<(), Refusal>
     requires { (4 ≤ length card.now) × (length card.now ≡ at + 2 * point_count card.now) }
-    ensures { result ≡ plane_points_refusal card.now at }
+    ensures { result ≡ checked (plane_points_refusal card.now at) }
 {
-    let n = wide(card[2]);
-    let mut low: i64 = 0 - POINT_STRIDE * (MOST_POINT + 1);
-    let mut k = 0;
-    while k < n {
+    let mut low = -POINT_STRIDE * (MOST_POINT + 1);
+    for k in 0..usize::from(card[2]) {
         let x = point(card, at, 2 * k);
         let y = point(card, at, 2 * k + 1);
-        if !within(x, MOST_POINT) {
-            return WRONG_POINT;
-        }
-        if !within(y, MOST_POINT) {
-            return WRONG_POINT;
+        if !within(x, MOST_POINT) || !within(y, MOST_POINT) {
+            return Err(Refusal::WrongPoint);
         }
         let place = POINT_STRIDE * x + y;
         if place < low {
-            return WRONG_POINT;
+            return Err(Refusal::WrongPoint);
         }
         low = place;
-        k += 1;
     }
-    NONE
+    Ok(())
 }
 
 // The bytes that are left, of which the points begin at byte at.
-pub fn check_rest(card: &[u8], at: usize) -> u16
+pub fn check_rest(card: &[u8], at: usize) -> Result<(), Refusal>
     requires { (4 ≤ length card.now) × (at ≤ length card.now) }
-    ensures { result ≡ plane_points_refusal card.now at }
+    ensures { result ≡ checked (plane_points_refusal card.now at) }
 {
-    if card.len() - at != 2 * wide(card[2]) {
-        return WRONG_LENGTH;
+    if card.len() - at != 2 * usize::from(card[2]) {
+        return Err(Refusal::WrongLength);
     }
     check_points(card, at)
 }

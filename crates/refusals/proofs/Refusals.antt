@@ -1,5 +1,6 @@
 -- Laws of the refusals and their numbers.
-use Rattle.std.proofs.Common.{◌≡◌, ◌≢◌, Bool, true, false, List, [], ◌∷◌, ℕ, zero, suc, ◌+◌, ◌-◌, ◌<◌, ◌≤◌, length, get_or, Result, Ok, Err, refl, sym, ◌∙◌, arith}
+use Rattle.std.proofs.Common.{◌≡◌, ◌≢◌, Bool, true, false, List, [], ◌∷◌, ℕ, zero, suc, ◌+◌, ◌-◌, ◌<◌, ◌≤◌, length, get_or, Result, Ok, Err, IsErrAnd, refl, sym, ap, ◌∙◌, arith}
+use Rattle.std.proofs.lemmas.Result.{err_from_is_err_and}
 use Rattle.refusals.specs.Numbers.{◌when◌, ◌▸◌, unless}
 use Rattle.refusals.specs.Refusals.{number_of, refusals, by_number, refusing, checked}
 use Rattle.refusals.specs.declared.Refusal.{Refusal}
@@ -106,3 +107,24 @@ module _ {A : Type 0} (m : ℕ) where
 
   pub gone_on_then : (k : ℕ) {u : Unit {0}} → Ok u ≡ checked m → (a : Result A Refusal) → unless k refusing a ≡ unless (m ▸ k) refusing a
   gone_on_then k h a = sym (unless_then refusing a m k (passed_none m h))
+
+-- of what a call gives: a value is the one it shows, a, where no number refuses, and a refusal is that of a number
+pub given_none : {A : Type 0} (m : ℕ) (a : A) {x : A} → Ok x ≡ unless m refusing (Ok a) → m ≡ 0
+given_none zero a h = refl
+given_none (suc m) a h = cc
+
+pub given_is : {A : Type 0} (m : ℕ) (a : A) {x : A} → Ok x ≡ unless m refusing (Ok a) → x ≡ a
+given_is zero a h = cc
+given_is (suc m) a h = cc
+
+pub given_some : {A : Type 0} (m : ℕ) (a : A) {e : Refusal} → Err e ≡ unless m refusing (Ok a) → m ≢ 0
+given_some zero a h z = cc
+given_some (suc m) a h z = absurd (omega arith)
+
+pub given_by : {A : Type 0} (m : ℕ) (a : A) {e : Refusal} → Err e ≡ unless m refusing (Ok a) → e ≡ by_number m
+given_by zero a h = cc
+given_by (suc m) a h = cc
+
+-- what `?` returns of a refusal is that refusal
+pub passed_up : {A : Type 0} (r : Result A Refusal) {e : Refusal} → IsErrAnd r (λ y. y ≡ e) → r ≡ Err e
+passed_up r h = let p = err_from_is_err_and r h in p.1 ∙ ap Err p.2

@@ -7,7 +7,4 @@ use Rattle.plane.specs.Format.{term_coefficient}
 use Rattle.plane_checks.proofs.check_limits.Given as goal
 
 abbrev pub invariant-loop-i : goal.invariant-loop-i
-invariant-loop-i l = (l.i ≤ l.t) × (any_below (λ k. outside 1000000 (term_coefficient l.card l.at k)) l.i ≡ false)
-
-abbrev pub decreases-loop-i : goal.decreases-loop-i
-decreases-loop-i l = l.t - l.i
+invariant-loop-i l = any_below (λ k. outside 1000000 (term_coefficient l.card l.at k)) l.i ≡ false

@@ -9,8 +9,4 @@ use Rattle.plane_checks.proofs.Points.{Low}
 use Rattle.plane_checks.proofs.check_points.Given as goal
 
 abbrev pub invariant-loop-k : goal.invariant-loop-k
-invariant-loop-k l =
-    (l.k ≤ l.n) × (any_below (wrong_plane_point l.card l.at) l.k ≡ false) × Low l.card l.at l.k l.low
-
-abbrev pub decreases-loop-k : goal.decreases-loop-k
-decreases-loop-k l = l.n - l.k
+invariant-loop-k l = (any_below (wrong_plane_point l.card l.at) l.k ≡ false) × Low l.card l.at l.k l.low

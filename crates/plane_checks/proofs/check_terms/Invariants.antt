@@ -9,7 +9,4 @@ use Rattle.plane_checks.proofs.Terms.{Least}
 use Rattle.plane_checks.proofs.check_terms.Given as goal
 
 abbrev pub invariant-loop-i : goal.invariant-loop-i
-invariant-loop-i l = (l.i ≤ l.t) × (any_below (wrong_term l.card l.at) l.i ≡ false) × Least l.card l.at l.i l.least
-
-abbrev pub decreases-loop-i : goal.decreases-loop-i
-decreases-loop-i l = l.t - l.i
+invariant-loop-i l = (any_below (wrong_term l.card l.at) l.i ≡ false) × Least l.card l.at l.i l.least

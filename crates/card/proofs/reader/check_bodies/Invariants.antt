@@ -9,8 +9,5 @@ use Rattle.card.proofs.reader.check_bodies.Given as goal
 
 abbrev pub invariant-loop-j : goal.invariant-loop-j
 invariant-loop-j l =
-    (l.j ≤ l.s) × (l.at ≤ length l.card) × (bodies_refusal l.card (polynomials l.card) 0 (bodies_at l.card) ≡ bodies_refusal l.card
-    (l.s - l.j) l.j l.at)
-
-abbrev pub decreases-loop-j : goal.decreases-loop-j
-decreases-loop-j l = l.s - l.j
+    (l.at ≤ length l.card) × (bodies_refusal l.card (polynomials l.card) 0 (bodies_at l.card) ≡ bodies_refusal l.card
+    (polynomials l.card - l.j) l.j l.at)

@@ -1,68 +1,68 @@
--- `card::reader::check_coefficients` meets its contract. The loop's invariant: no coefficient below i is outside its limits, and top has
--- the bytes of the last one passed.
-use mathlib.Core.Path.{◌≡◌, sym, subst}
-use mathlib.Core.Bool.{false}
+-- `card::reader::check_coefficients` meets its contract. The loop's invariant: no coefficient below i is outside its limits.
+use mathlib.Core.Path.{◌≡◌, sym, ap, subst, ◌∙◌}
+use mathlib.Core.Bool.{Bool, true, false}
 use mathlib.Core.List.{List}
-use Prim.Native.Nat.{ℕ, ◌+◌, ◌*◌, ◌-◌, ◌≤◌, ◌<◌, ◌^◌}
+use Prim.Native.Nat.{ℕ, ◌+◌, ◌*◌, ◌^◌, ◌<◌}
 use native.Mathlib.Omega.{arith}
+use lib.IntN.{nat_abs}
+use Rattle.refusals.specs.Refusals.{checked}
 use Rattle.layout.specs.Format.{degree, word, coefficient}
 use Rattle.integers.specs.Search.{any_below, outside}
 use Rattle.integers.proofs.Search.{some_none, some_more}
 use Rattle.layout.proofs.Twos.{abs_word, abs_word-zero}
 use Rattle.card.proofs.Polynomial.{large_coefficient, zero-top, sound_constant, sound-coefficients}
 use Rattle.card.proofs.reader.check_coefficients.Goals as goal
-use Rattle.card.proofs.reader.check_coefficients.Goals.{After-loop-i}
+use Rattle.card.proofs.reader.check_coefficients.Goals.{else-loop-i-test, then-loop-i-test+else-too_large+else-i-degree}
+use Rattle.card.proofs.reader.check_coefficients.Goals.{else-degree-gt0-via-then-degree-gt0+else-word-eq0, else-degree-gt0-via-else-degree-gt0}
 
 pub loop-i-init : goal.loop-i-init
-loop-i-init c = (omega arith, some_none _, (λ h. absurd (omega arith)), omega arith)
+loop-i-init c = some_none _
 
 pub returns-then-too_large : goal.returns-then-too_large
-returns-then-too_large c = sym (large_coefficient _ _ c.loop-i.i (omega arith) (cc))
-
--- the bytes of the coefficient just passed, and after the loop
-next : (card : List ℕ) (at i t : ℕ) → t ≡ word card (at + 1 + 4 * i) → t ≡ word card (at + 1 + 4 * (i + 1 - 1))
-next card at i t h = let e : i + 1 - 1 ≡ i = omega arith in rw e h
-
-record Passed (card : List ℕ) (at top : ℕ) : Type 0 where
-  none : any_below (λ k. outside 1000000 (coefficient card at k)) (degree card at + 1) ≡ false
-  is_top : top ≡ word card (at + 1 + 4 * degree card at)
-  fits : top < 2 ^ 32
-
-passed : (card : List ℕ) (at d top i : ℕ)
-    → (i ≤ d + 1) × (any_below (λ k. outside 1000000 (coefficient card at k)) i ≡ false) × (0 < i → top ≡ word card (at + 1 + 4 * (i - 1)))
-    × (top < 2 ^ 32)
-    → d ≡ degree card at → d < i → Passed card at top
-passed card at d top i inv e l =
-    let same : i ≡ degree card at + 1 = omega arith in
-    let less : i - 1 ≡ degree card at = omega arith in
-    record {
-      none = subst (λ (n : ℕ). any_below (λ k. outside 1000000 (coefficient card at k)) n ≡ false) same inv.1;
-      is_top = rw less at (inv.2 (omega arith));
-      fits = inv.3;
-    }
+returns-then-too_large c = ap checked (sym (large_coefficient _ _ c.loop-i.i (omega arith) (cc)))
 
 pub loop-i-preserved : goal.loop-i-preserved
-loop-i-preserved c = (
-  omega arith,
-  some_more _ c.loop-i.i c.loop-i.invariant.1 (cc),
-  (λ h. next _ _ _ _ c.word-top.ensures),
-  omega arith,
-)
+loop-i-preserved c = some_more _ c.loop-i.i c.loop-i.invariant (cc)
 
-after : (c : After-loop-i)
-    → Passed c.args.card.now c.args.at
-    c.loop-i.top
-after c = passed _ _ _ _ _ c.loop-i.invariant (omega arith) (omega arith)
+-- none is large once that of the degree, i, is passed
+all_passed : (c : List ℕ) (at i : ℕ) → any_below (λ k. outside 1000000 (coefficient c at k)) i ≡ false
+    → outside 1000000 (coefficient c at i) ≡ false → i ≡ degree c at
+    → any_below (λ k. outside 1000000 (coefficient c at k)) (degree c at + 1) ≡ false
+all_passed c at i h k e =
+    subst (λ (m : ℕ). any_below (λ k. outside 1000000 (coefficient c at k)) (m + 1) ≡ false) e
+    (some_more (λ k. outside 1000000 (coefficient c at k)) i h k)
 
-pub returns-then-top-eq0 : goal.returns-then-top-eq0
-returns-then-top-eq0 c = let p = after (goal.at.returns-then-top-eq0 c).After-loop-i in sym
-    (zero-top _ _ p.none (omega arith) (abs_word-zero _ (omega (arith, p.is_top))))
+-- the bytes w of the coefficient of the degree d: 0, or not
+module _ (c : List ℕ) (at d w : ℕ) (e : d ≡ degree c at) (f : w ≡ word c (at + 1 + 4 * d)) where
+  is_word : w ≡ word c (at + 1 + 4 * degree c at)
+  is_word = rw e at f
 
-pub returns-else-top-eq0 : goal.returns-else-top-eq0
-returns-else-top-eq0 c =
-    let p = after (goal.at.returns-else-top-eq0 c).After-loop-i in
-    sym (sound-coefficients _ _ p.none (omega arith)
-    (λ e. c.if-top-eq0.false (omega (arith, p.is_top, abs_word _ (omega (arith, p.is_top, p.fits)) e))))
+  is_zero : w ≡ 0 → nat_abs (coefficient c at (degree c at)) ≡ 0
+  is_zero h = abs_word-zero _ (sym is_word ∙ h)
 
-pub returns-else-d-gt0 : goal.returns-else-d-gt0
-returns-else-d-gt0 c = let p = after (goal.at.returns-else-d-gt0 c).After-loop-i in sym (sound_constant _ _ p.none (omega arith))
+  not_zero : w < 2 ^ 32 → (w ≡ 0 → ⊥) → nat_abs (coefficient c at (degree c at)) ≡ 0 → ⊥
+  not_zero l h z = h (is_word ∙ abs_word _ (omega (arith, is_word)) z)
+
+pub returns-then-word-eq0 : goal.returns-then-word-eq0
+returns-then-word-eq0 c =
+    let a = c.args in
+    let none : any_below (λ k. outside 1000000 (coefficient a.card.now a.at k)) (degree a.card.now a.at + 1) ≡ false = elim c.loop-i-test.branch [
+      | else-loop-i-test w ↦ absurd (omega arith)
+      | then-loop-i-test+else-too_large+else-i-degree w ↦ all_passed _ _ c.loop-i.i c.loop-i.invariant (cc) (omega arith)
+    ] in
+    let z = is_zero a.card.now a.at _ _ c.from-degree.ensures c.word-then-degree-gt0.ensures c.if-word-eq0.true in
+    ap checked (sym (zero-top _ _ none (omega arith) z))
+
+pub returns : goal.returns
+returns c =
+    let a = c.args in
+    let none : any_below (λ k. outside 1000000 (coefficient a.card.now a.at k)) (degree a.card.now a.at + 1) ≡ false = elim c.loop-i-test.branch [
+      | else-loop-i-test w ↦ absurd (omega arith)
+      | then-loop-i-test+else-too_large+else-i-degree w ↦ all_passed _ _ c.loop-i.i c.loop-i.invariant (cc) (omega arith)
+    ] in
+    elim c.else-degree-gt0.branch [
+      | else-degree-gt0-via-then-degree-gt0+else-word-eq0 w ↦
+          let z = not_zero a.card.now a.at _ _ c.from-degree.ensures w.word-then-degree-gt0.ensures (omega arith) w.if-word-eq0.false in
+          ap checked (sym (sound-coefficients _ _ none (omega arith) z))
+      | else-degree-gt0-via-else-degree-gt0 w ↦ ap checked (sym (sound_constant _ _ none (omega arith)))
+    ]

@@ -6,44 +6,38 @@ use lib.IntN.{ℤ, nat_abs}
 use mir.Syntax.{w64}
 use mir.Val.{SFits, to_z, of_z}
 use mir.Facts.{to_z-of_z}
-use Rattle.card.specs.Card.{position_refusal}
-use Rattle.card.proofs.Positions.{place-card, place_far_x, place_far_y, place_held}
+use Rattle.std.proofs.Common.{Ok}
+use Rattle.refusals.specs.Refusals.{checked}
+use Rattle.refusals.proofs.Refusals.{passed_none, passed_on_first, passed_up}
+use Rattle.card.specs.Card.{position_refusal, place_refusal}
+use Rattle.card.proofs.Positions.{place_far_x, place_far_y, place_held}
 use Rattle.card.proofs.reader.check_place.Goals as goal
-use Rattle.card.proofs.reader.check_place.Goals.{After-magnitude-2, Else-number-ne-NONE}
+use Rattle.card.proofs.reader.check_place.Goals.{then-unsigned_abs-gt-FARTHEST-via-then-unsigned_abs-gt-FARTHEST as by-x}
+use Rattle.card.proofs.reader.check_place.Goals.{then-unsigned_abs-gt-FARTHEST-via-else-unsigned_abs-gt-FARTHEST+then-unsigned_abs-gt-FARTHEST-2 as by-y}
 
-pub returns-then-number-ne-NONE : goal.returns-then-number-ne-NONE
-returns-then-number-ne-NONE c =
-    c.check_position-number.ensures ∙ place-card _ _ _ (λ e. c.if-number-ne-NONE.true (c.check_position-number.ensures ∙ e))
-
-good : (c : Else-number-ne-NONE) → position_refusal c.args.card.now c.args.j ≡ 0
-good c = sym c.check_position-number.ensures ∙ c.if-number-ne-NONE.false
+pub returns-in_err-check_position : goal.returns-in_err-check_position
+unfolding place_refusal
+returns-in_err-check_position c =
+    passed_up _ c.from_residual.ensures.1 ∙ passed_on_first _ _ c.in_err-check_position.ensures (Ok tt)
 
 -- a magnitude, of a number that is passed on as it came
 is : (x : ℤ) (m : ℕ) → SFits w64 x → m ≡ nat_abs (to_z w64 (of_z w64 x)) → m ≡ nat_abs x
 is x m f e = e ∙ ap nat_abs (to_z-of_z f)
 
-pub returns-then-magnitude-gt-FARTHEST : goal.returns-then-magnitude-gt-FARTHEST
-returns-then-magnitude-gt-FARTHEST c =
-    let x = is _ _ c.ranges.x c.magnitude.ensures in
-    place_far_x _ _ _ (good (goal.at.returns-then-magnitude-gt-FARTHEST c).Else-number-ne-NONE)
-    (omega (arith, c.if-magnitude-gt-FARTHEST.true, x))
-
--- X and Y after both magnitudes
-x_is : (c : After-magnitude-2)
-    → c.magnitude.result ≡ nat_abs c.args.x
-x_is c = is _ _ c.ranges.x c.magnitude.ensures
-
-y_is : (c : After-magnitude-2) → c.magnitude-2.result ≡ nat_abs c.args.y
-y_is c = is _ _ c.ranges.y c.magnitude-2.ensures
-
-pub returns-then-magnitude-gt-FARTHEST-2 : goal.returns-then-magnitude-gt-FARTHEST-2
-returns-then-magnitude-gt-FARTHEST-2 c =
-    place_far_y _ _ _ (good (goal.at.returns-then-magnitude-gt-FARTHEST-2 c).Else-number-ne-NONE)
-    (omega (arith, c.if-magnitude-gt-FARTHEST.false, x_is (goal.at.returns-then-magnitude-gt-FARTHEST-2 c).After-magnitude-2))
-    (omega (arith, c.if-magnitude-gt-FARTHEST-2.true, y_is (goal.at.returns-then-magnitude-gt-FARTHEST-2 c).After-magnitude-2))
+pub returns-then-unsigned_abs-gt-FARTHEST : goal.returns-then-unsigned_abs-gt-FARTHEST
+returns-then-unsigned_abs-gt-FARTHEST c =
+    let p = passed_none _ c.in_ok-check_position.ensures in
+    let x = is _ _ c.ranges.x c.unsigned_abs.ensures.value in
+    let far : 6 ≡ place_refusal c.args.card.now c.args.j (c.args.x, c.args.y) = elim c.then-unsigned_abs-gt-FARTHEST.branch [
+      | by-x w ↦ place_far_x _ _ _ p (omega arith)
+      | by-y w ↦
+          let y = is _ _ c.ranges.y w.unsigned_abs-else-unsigned_abs-gt-FARTHEST.ensures.value in
+          place_far_y _ _ _ p (omega arith) (omega arith)
+    ] in
+    ap checked far
 
 pub returns : goal.returns
 returns c =
-    place_held _ _ _ (good (goal.at.returns c).Else-number-ne-NONE)
-    (omega (arith, c.if-magnitude-gt-FARTHEST.false, x_is (goal.at.returns c).After-magnitude-2))
-    (omega (arith, c.if-magnitude-gt-FARTHEST-2.false, y_is (goal.at.returns c).After-magnitude-2))
+    let x = is _ _ c.ranges.x c.unsigned_abs.ensures.value in
+    let y = is _ _ c.ranges.y c.unsigned_abs-else-unsigned_abs-gt-FARTHEST.ensures.value in
+    ap checked (place_held _ _ _ (passed_none _ c.in_ok-check_position.ensures) (omega arith) (omega arith))
