@@ -1,16 +1,14 @@
 -- The three blocks of an adapted list, one for each power of the last polynomial; its products are below 3^i.
-use mathlib.Core.Path.{◌≡◌, refl, sym, ap, ◌∙◌, subst}
-use mathlib.Core.Logic.{◌≢◌, ◌⊎◌, inl, inr}
+use mathlib.Core.Path.{◌≡◌, ap, ◌∙◌}
+use mathlib.Core.Logic.{◌⊎◌, inl, inr}
 use mathlib.Core.List.{List, [], ◌∷◌, ◌++◌}
-use Prim.Native.Nat.{ℕ, zero, suc, ◌+◌, ◌*◌, ◌^◌, ◌/◌, ◌%◌, ◌-◌, min, ◌<◌, ◌≤◌}
+use Prim.Native.Nat.{ℕ, zero, suc, ◌+◌, ◌*◌, ◌^◌, ◌<◌}
 use native.Mathlib.Omega.{arith}
 use native.Mathlib.Decide.{dec_lt}
-use native.Mathlib.Nat.{one-le-pow}
-use lib.Arith.{digits_div, digits_mod}
 use Rattle.signs.specs.Lists.{times, shift}
-use Rattle.signs.specs.Adapted.{signs_of, restrictions, adapted}
-use Rattle.signs.proofs.Lists.{times-nil, times-same, times-one, times-append, times-shift, times-shift-low, restrictions-out}
-use Rattle.signs.proofs.Lists.{restrictions_holds, shift_holds}
+use Rattle.signs.specs.Adapted.{restrictions, adapted}
+use Rattle.signs.proofs.Lists.{times-nil, times-one, times-append, times-shift}
+use Rattle.signs.proofs.Lists.{shift_holds}
 
 -- ---- the three blocks of an adapted list
 

@@ -1,7 +1,7 @@
 -- Document 01's starred edges about signs and adapted lists, computed from the definitions. All starred lines are one table with one
 -- theorem in proofs/Starred.antt of `runs`.
 use mathlib.Core.Path.{◌≡◌, refl}
-use mathlib.Core.List.{List, [], ◌∷◌}
+use mathlib.Core.List.{[], ◌∷◌}
 use lib.IntN.{pos}
 use Rattle.signs.specs.Lists.{times, up_to, keep, shift}
 use Rattle.integers.specs.Powers.{power}

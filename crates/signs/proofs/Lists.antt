@@ -1,14 +1,14 @@
 -- Laws of lists of numbers: what `times` says of `++`, `shift`, `keep`, `up_to` and `restrictions`. Membership is `0 < times q l`, so that
 -- omega reads it.
-use mathlib.Core.Path.{◌≡◌, refl, sym, ap, ◌∙◌, subst}
+use mathlib.Core.Path.{◌≡◌, refl, sym, ◌∙◌, subst}
 use mathlib.Core.Logic.{◌≢◌}
 use mathlib.Core.Bool.{Bool, true, false, cond}
 use mathlib.Core.Logic.{◌⊎◌, inl, inr}
 use mathlib.Core.List.{List, [], ◌∷◌, ◌++◌}
-use Prim.Native.Nat.{ℕ, zero, suc, ◌+◌, ◌*◌, ◌^◌, ◌-◌, min, ◌<◌, ◌≤◌}
+use Prim.Native.Nat.{ℕ, zero, suc, ◌+◌, ◌^◌, ◌-◌, ◌<◌, ◌≤◌}
 use native.Mathlib.Omega.{arith}
 use native.Mathlib.Decide.{ℕ_discrete, dec_lt}
-use lib.Dec.{T, eqb, leb, leb→le, le→leb}
+use lib.Dec.{eqb, leb, leb→le, le→leb}
 use lib.ListN.{take}
 use Rattle.integers.proofs.Tests.{is_true, eqb_same, eqb_other, eq_cases, bool_cases, T_of, not_T_of}
 use Rattle.signs.specs.Lists.{times, up_to, keep, shift}

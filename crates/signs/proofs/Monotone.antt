@@ -1,14 +1,13 @@
 -- Theorem: a list with more patterns has an adapted list with more products.
-use mathlib.Core.Path.{◌≡◌, refl, sym, ap, ◌∙◌, subst}
-use mathlib.Core.Logic.{◌≢◌, ◌⊎◌, inl, inr}
-use mathlib.Core.List.{List, [], ◌∷◌, ◌++◌}
+use mathlib.Core.Path.{◌≡◌}
+use mathlib.Core.Logic.{◌⊎◌, inl, inr}
+use mathlib.Core.List.{List, [], ◌∷◌}
 use Prim.Native.Nat.{ℕ, zero, suc, ◌+◌, ◌*◌, ◌^◌, min, ◌<◌, ◌≤◌}
 use native.Mathlib.Omega.{arith}
-use native.Mathlib.Decide.{dec_lt}
 use Rattle.signs.specs.Adapted.{signs_of, restrictions, adapted}
-use Rattle.signs.specs.Lists.{times, shift}
-use Rattle.signs.proofs.Blocks.{adapted-0, adapted-1, adapted-2, adapted_cases, adapted_below}
-use Rattle.signs.proofs.Lists.{times-nil, times-same, times-one, restrictions_in, restrictions_holds}
+use Rattle.signs.specs.Lists.{times}
+use Rattle.signs.proofs.Blocks.{adapted-0, adapted-1, adapted-2, adapted_cases}
+use Rattle.signs.proofs.Lists.{times-nil, times-same, restrictions_in, restrictions_holds}
 
 -- what stands in l stands in m
 abbrev pub Within : List ℕ → List ℕ → Type 0

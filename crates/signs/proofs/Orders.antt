@@ -1,15 +1,16 @@
 -- The tests of rising and bounded lists are right, and what a loop over the list keeps of them.
-use mathlib.Core.Path.{◌≡◌, refl, sym, ap, ◌∙◌}
+use mathlib.Core.Path.{◌≡◌, refl, sym, ◌∙◌}
 use mathlib.Core.Bool.{Bool, true, false, ◌&&◌, true≢false}
 use mathlib.Core.List.{List, [], ◌∷◌}
-use Prim.Native.Nat.{ℕ, suc, ◌+◌, ◌-◌, ◌<◌, ◌≤◌}
+use Prim.Native.Nat.{ℕ, zero, suc, ◌+◌, ◌<◌, ◌≤◌}
 use native.Mathlib.Omega.{arith}
 use native.Mathlib.Numerals.{add-one}
 use native.Mathlib.Decide.{ℕ_discrete}
-use borrow.Author.Tests.{ltb-true, lt-ltb, le-ltb}
+use borrow.Author.Tests.{ltb-true, lt-ltb}
 use lib.Dec.{ltb}
-use lib.ListN.{length, get_or, drop, drop_of_length-le, length-drop}
+use lib.ListN.{length, get_or, drop, drop_of_length-le}
 use lib.Seq.{drop-cons}
+use Rattle.std.specs.List.{IsAllAdjacentAnswer}
 use Rattle.signs.specs.Lists.{times, Below, Rising, is_below, is_rising}
 use Rattle.signs.proofs.Lists.{times-nil, times-same, times_other}
 
@@ -67,18 +68,15 @@ rising_test (x ∷ y ∷ l) r =
 
 -- ---- a loop over the list: each below a bound
 
--- a, the test of the numbers passed, with the one at k: what is left of the test of the list
-pub below_next : (b k : ℕ) (l : List ℕ) (a a' : Bool) → k < length l → a' ≡ (ltb (get_or l k 0) b && a)
-    → is_below b l ≡ (a && is_below b (drop k l)) → is_below b l ≡ (a' && is_below b (drop (k + 1) l))
+-- a, the test of the numbers passed: what is left of the test of the list, once the number at k is passed too
+pub below_next : (b k : ℕ) (l : List ℕ) (a : Bool) → k < length l → is_below b l ≡ (a && is_below b (drop k l))
+    → is_below b l ≡ ((a && ltb (get_or l k 0) b) && is_below b (drop (k + 1) l))
 unfolding is_below
-below_next b k l a a' h n e =
-    e ∙ rw (add-one k, drop-cons l k 0 h, n) (turned a (ltb (get_or l k 0) b) (is_below b (drop (suc k) l)))
+below_next b k l a h e = e ∙ rw (add-one k, drop-cons l k 0 h) (grouped a _ _)
   where
-    turned : (x y z : Bool) → (x && (y && z)) ≡ ((y && x) && z)
-    turned true true z = refl
-    turned true false z = refl
-    turned false true z = refl
-    turned false false z = refl
+    grouped : (x y z : Bool) → (x && (y && z)) ≡ ((x && y) && z)
+    grouped true y z = refl
+    grouped false y z = refl
 
 pub below_end : (b k : ℕ) (l : List ℕ) (a : Bool) → length l ≤ k → is_below b l ≡ (a && is_below b (drop k l)) → a ≡ is_below b l
 unfolding is_below
@@ -88,45 +86,25 @@ below_end b k l a h e = sym (e ∙ rw (drop_of_length-le l h) (last a))
     last true = refl
     last false = refl
 
--- ---- a loop over the list: each smaller than the next
+-- ---- what the comparison of neighbours says: each smaller than the next
 
-two_left : (k : ℕ) (l : List ℕ) → 1 ≤ k → k < length l → drop (k - 1) l ≡ get_or l (k - 1) 0 ∷ drop k l
-two_left k l h q =
-    let e : suc (k - 1) ≡ k = omega arith in
-    drop-cons l (k - 1) 0 (omega arith) ∙ ap (λ (n : ℕ). get_or l (k - 1) 0 ∷ drop n l) e
-
-rises_two : (x y : ℕ) (l : List ℕ) → is_rising (x ∷ y ∷ l) ≡ ltb x y && is_rising (y ∷ l)
+rising_all : (l : List ℕ) → ((k : ℕ) → suc k < length l → ltb (get_or l k 0) (get_or l (suc k) 0) ≡ true) → is_rising l ≡ true
 unfolding is_rising
-rises_two x y l = refl
+rising_all [] h = refl
+rising_all (x ∷ []) h = refl
+rising_all (x ∷ y ∷ l) h = both (ltb x y) (is_rising (y ∷ l)) (h 0 (omega arith)) (rising_all (y ∷ l) (λ k g. h (suc k) (omega arith)))
 
-rises_at : (k : ℕ) (l : List ℕ) → 1 ≤ k → k < length l
-    → is_rising (drop (k - 1) l) ≡ ltb (get_or l (k - 1) 0) (get_or l k 0) && is_rising (drop k l)
-rises_at k l h q =
-    ap is_rising (two_left k l h q ∙ ap (λ (t : List ℕ). get_or l (k - 1) 0 ∷ t) (drop-cons l k 0 q))
-    ∙ rises_two (get_or l (k - 1) 0) (get_or l k 0) (drop (suc k) l)
-    ∙ ap (λ (t : List ℕ). ltb (get_or l (k - 1) 0) (get_or l k 0) && is_rising t) (sym (drop-cons l k 0 q))
-
-pub rising_next : (k : ℕ) (l : List ℕ) → 1 ≤ k → k < length l → get_or l (k - 1) 0 < get_or l k 0
-    → is_rising l ≡ is_rising (drop (k - 1) l) → is_rising l ≡ is_rising (drop (k + 1 - 1) l)
-rising_next k l h q s e =
-    e ∙ rises_at k l h q ∙ and_true (ltb (get_or l (k - 1) 0) (get_or l k 0)) (is_rising (drop k l))
-    (lt-ltb (get_or l (k - 1) 0) (get_or l k 0) s)
-    ∙ ap (λ (n : ℕ). is_rising (drop n l)) (same k)
+falls_at : (l : List ℕ) (k : ℕ) → suc k < length l → ltb (get_or l k 0) (get_or l (suc k) 0) ≡ false → is_rising l ≡ false
+unfolding is_rising
+falls_at [] k h e = absurd (omega arith)
+falls_at (x ∷ []) k h e = absurd (omega arith)
+falls_at (x ∷ y ∷ l) zero h e = and_false (ltb x y) (is_rising (y ∷ l)) e
+falls_at (x ∷ y ∷ l) (suc k) h e = rw (falls_at (y ∷ l) k (omega arith) e) (never (ltb x y))
   where
-    same : (k : ℕ) → k ≡ k + 1 - 1
-    same k = omega arith
+    never : (b : Bool) → b && false ≡ false
+    never true = refl
+    never false = refl
 
-pub rising_not : (k : ℕ) (l : List ℕ) → 1 ≤ k → k < length l → get_or l k 0 ≤ get_or l (k - 1) 0
-    → is_rising l ≡ is_rising (drop (k - 1) l) → false ≡ is_rising l
-rising_not k l h q s e =
-    sym (e ∙ rises_at k l h q
-    ∙ and_false (ltb (get_or l (k - 1) 0) (get_or l k 0)) (is_rising (drop k l)) (le-ltb (get_or l (k - 1) 0) (get_or l k 0) s))
-
-rises_short : (l : List ℕ) → length l ≤ 1 → is_rising l ≡ true
-unfolding is_rising
-rises_short [] h = refl
-rises_short (x ∷ []) h = refl
-rises_short (x ∷ y ∷ l) h = absurd (omega arith)
-
-pub rising_end : (k : ℕ) (l : List ℕ) → 1 ≤ k → length l ≤ k → is_rising l ≡ is_rising (drop (k - 1) l) → true ≡ is_rising l
-rising_end k l h q e = sym (e ∙ rises_short (drop (k - 1) l) (omega (arith, length-drop (k - 1) l)))
+pub rising_answer : (l : List ℕ) (r : Bool) → IsAllAdjacentAnswer (λ x y b. b ≡ ltb x y) l r → r ≡ is_rising l
+rising_answer l true h = sym (rising_all l (λ k g. sym (rw add-one at (h k 0 (omega arith)))))
+rising_answer l false h = sym (falls_at l h.0 (omega (arith, h.1)) (sym (rw add-one at (h.2 0))))

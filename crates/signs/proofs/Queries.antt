@@ -1,18 +1,18 @@
 -- The query of a list of patterns is the tally of its counts: query s E α = tally (counts) 0 − tally 0 (counts).
-use mathlib.Core.Path.{◌≡◌, refl, sym, ap, ◌∙◌, subst}
-use mathlib.Core.Logic.{◌≢◌, ◌⊎◌, inl, inr}
-use mathlib.Core.List.{List, [], ◌∷◌, ◌++◌}
-use Prim.Native.Nat.{ℕ, zero, suc, ◌+◌, ◌*◌, ◌^◌, ◌/◌, ◌%◌, ◌<◌, ◌≤◌}
+use mathlib.Core.Path.{◌≡◌, refl, sym, ap, ◌∙◌}
+use mathlib.Core.Logic.{◌≢◌}
+use mathlib.Core.List.{List, [], ◌∷◌}
+use Prim.Native.Nat.{ℕ, zero, suc, ◌+◌, ◌*◌, ◌^◌, ◌<◌}
 use native.Mathlib.Omega.{arith}
 use native.Mathlib.Decide.{ℕ_discrete}
-use lib.IntN.{ℤ, pos, negsuc, ◌+ℤ◌, ◌*ℤ◌, neg_ℤ, zero-*ℤ}
+use lib.IntN.{ℤ, pos, ◌+ℤ◌, ◌*ℤ◌, neg_ℤ, zero-*ℤ}
 use Rattle.integers.proofs.Diff.{Diff, diff_neg, diff_add, one-*ℤ, minus-*ℤ}
 use Rattle.signs.specs.Lists.{times, Below}
 use Rattle.integers.specs.Powers.{power}
 use Rattle.signs.specs.Signs.{sign, sign_of, query}
 use Rattle.signs.proofs.Digits.{top, low, digits}
 use Rattle.signs.proofs.Lists.{times-nil, times-same, times_other, times-append}
-use Rattle.signs.proofs.Tallies.{fold, tally, Agree, tally_ext, none, tally_none, plus, tally_plus}
+use Rattle.signs.proofs.Tallies.{fold, tally, Agree, tally_ext, none, plus, tally_plus}
 
 -- the counts of a list of patterns
 abbrev pub counts : List ℕ → ℕ → ℕ

@@ -1,22 +1,20 @@
 -- Theorem: the adapted list of a rising list of patterns is rising, its products are below 3^s, and there are as many as patterns.
 -- `adapted_below` of `Blocks` is the second part.
 unfoldable pub use Rattle.signs.specs.Lists.{total}
-use mathlib.Core.Path.{◌≡◌, refl, sym, ap, ◌∙◌, subst}
-use mathlib.Core.Logic.{◌≢◌, ◌⊎◌, inl, inr}
+use mathlib.Core.Path.{◌≡◌, refl, sym, ap, ◌∙◌}
 use mathlib.Core.Bool.{Bool, true, false, cond}
 use mathlib.Core.List.{List, [], ◌∷◌, ◌++◌}
 use Prim.Native.Nat.{ℕ, zero, suc, ◌+◌, ◌*◌, ◌^◌, min, ◌<◌, ◌≤◌}
 use native.Mathlib.Omega.{arith}
 use native.Mathlib.Decide.{ℕ_discrete, dec_lt}
 use native.Mathlib.Nat.{add-suc}
-use lib.Dec.{T, leb, leb→le, le→leb}
+use lib.Dec.{leb}
 use lib.ListN.{length, length-append}
-use Rattle.integers.proofs.Tests.{is_true, is_false}
 use Rattle.signs.specs.Adapted.{signs_of, restrictions, adapted}
-use Rattle.signs.specs.Lists.{times, Below, Rising, up_to, keep, shift}
+use Rattle.signs.specs.Lists.{times, Below, Rising, shift}
 use Rattle.signs.proofs.Blocks.{adapted_below}
-use Rattle.signs.proofs.Lists.{times-nil, times-same, times_other, times-one, times-append, times-keep, times-up_to_in}
-use Rattle.signs.proofs.Lists.{times-up_to-out, restrictions_holds, shift_holds}
+use Rattle.signs.proofs.Lists.{times-nil, times-same, times_other, times-append, times-keep, times-up_to_in}
+use Rattle.signs.proofs.Lists.{restrictions_holds, shift_holds}
 
 -- ---- sums over the numbers below n
 

@@ -1,13 +1,8 @@
 -- Laws of `tally`: it sees only the patterns of its polynomials, and it is additive.
 unfoldable pub use Rattle.signs.specs.Tally.{fold, tally}
-use mathlib.Core.Path.{◌≡◌, refl, sym, ap, ◌∙◌, subst}
-use mathlib.Core.Logic.{◌≢◌, ◌⊎◌, inl, inr}
-use mathlib.Core.List.{List, [], ◌∷◌, ◌++◌}
-use Prim.Native.Nat.{ℕ, zero, suc, ◌+◌, ◌*◌, ◌^◌, ◌/◌, ◌%◌, ◌-◌, min, ◌<◌, ◌≤◌}
+use mathlib.Core.Path.{◌≡◌, refl, ◌∙◌}
+use Prim.Native.Nat.{ℕ, zero, suc, ◌+◌, ◌*◌, ◌^◌, ◌/◌, ◌%◌, ◌<◌}
 use native.Mathlib.Omega.{arith}
-use native.Mathlib.Decide.{dec_lt}
-use native.Mathlib.Nat.{one-le-pow}
-use lib.Arith.{digits_div, digits_mod}
 use Rattle.signs.proofs.Digits.{top, low}
 
 pub tally-at : (i k a : ℕ) (p n : ℕ → ℕ) → a < 3 ^ i → tally (suc i) (a + k * 3 ^ i) p n ≡ tally i a (fold i k p n) (fold i k n p)

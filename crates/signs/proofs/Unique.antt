@@ -1,20 +1,16 @@
 -- Theorem: a weight that vanishes outside a list of patterns, and whose queries on the list's adapted list are 0, is 0.
 -- The weight is a difference p − n of two functions into ℕ, so "is 0" reads p q ≡ n q, and all arithmetic is omega's.
-use mathlib.Core.Path.{◌≡◌, refl, sym, ap, ◌∙◌, subst}
-use mathlib.Core.Logic.{◌≢◌, ◌⊎◌, inl, inr}
-use mathlib.Core.List.{List, [], ◌∷◌, ◌++◌}
-use Prim.Native.Nat.{ℕ, zero, suc, ◌+◌, ◌*◌, ◌^◌, ◌/◌, ◌%◌, ◌-◌, min, ◌<◌, ◌≤◌}
+use mathlib.Core.Path.{◌≡◌, refl, sym, ◌∙◌, subst}
+use mathlib.Core.Logic.{◌⊎◌, inl, inr}
+use mathlib.Core.List.{List, [], ◌∷◌}
+use Prim.Native.Nat.{ℕ, zero, suc, ◌+◌, ◌*◌, ◌^◌, min, ◌<◌}
 use native.Mathlib.Omega.{arith}
-use native.Mathlib.Decide.{dec_lt}
-use native.Mathlib.Nat.{one-le-pow}
-use lib.Arith.{digits_div, digits_mod}
-use Rattle.signs.specs.Lists.{times, shift}
+use Rattle.signs.specs.Lists.{times}
 use Rattle.signs.specs.Adapted.{signs_of, restrictions, adapted}
-use Rattle.signs.proofs.Lists.{times-nil, times-same, times-one, times-append, times-shift, times-shift-low, restrictions-out}
-use Rattle.signs.proofs.Lists.{restrictions_holds, shift_holds}
-use Rattle.signs.proofs.Digits.{top, low, split, digits}
+use Rattle.signs.proofs.Lists.{times-nil, times-same, restrictions-out}
+use Rattle.signs.proofs.Digits.{split}
 use Rattle.signs.proofs.Tallies.{fold, tally, tally-at}
-use Rattle.signs.proofs.Blocks.{adapted-0, adapted-1, adapted-2, adapted_cases, adapted_below}
+use Rattle.signs.proofs.Blocks.{adapted-0, adapted-1, adapted-2, adapted_below}
 
 -- ---- one pattern of P1 .. Pi with the three signs of P(i+1): t counts in the list, p − n is the weight
 

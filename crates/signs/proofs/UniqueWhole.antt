@@ -2,9 +2,9 @@
 -- "the square matrix of their signs can be inverted" ("Adapted lists"); the whole of it is `invertible` of the crate solutions.
 use mathlib.Core.Path.{◌≡◌, refl, sym, ap, ◌∙◌}
 use mathlib.Core.List.{List, [], ◌∷◌}
-use Prim.Native.Nat.{ℕ, zero, suc, ◌+◌, ◌^◌, ◌<◌}
+use Prim.Native.Nat.{ℕ, zero, suc, ◌^◌, ◌<◌}
 use native.Mathlib.Omega.{arith}
-use lib.IntN.{ℤ, pos, ◌+ℤ◌, *ℤ-zero, +ℤ_idl}
+use lib.IntN.{ℤ, pos, *ℤ-zero, +ℤ_idl}
 use lib.ListN.{length, get_or, replicate}
 use Rattle.integers.proofs.Parts.{up, dn}
 use Rattle.integers.proofs.Diff.{Diff, diff_one}

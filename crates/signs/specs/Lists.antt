@@ -8,7 +8,9 @@
 --   shift c l               == l with c added to each
 --   total f n               == f 0 + .. + f (n − 1)
 --   is_below n l, is_rising l == the tests of `Below n l` and `Rising l`
-use Rattle.std.specs.Prelude.{Bool, true, cond, ◌&&◌, List, [], ◌∷◌, ◌++◌, ℕ, zero, suc, ◌+◌, ◌<◌, eqb, ltb}
+--   is_patterns s l         == the test that l is a rising list of at most 64 patterns of s polynomials
+use Rattle.std.specs.Prelude.{Bool, true, cond, ◌&&◌, List, [], ◌∷◌, ◌++◌, ℕ, zero, suc, ◌+◌, ◌<◌, ◌^◌, eqb, ltb, leb, length}
+use Rattle.refusals.specs.Limits.{most_points}
 
 unfoldable pub times : ℕ → List ℕ → ℕ
 times q [] = 0
@@ -46,3 +48,6 @@ unfoldable pub is_rising : List ℕ → Bool
 is_rising [] = true
 is_rising (x ∷ []) = true
 is_rising (x ∷ y ∷ l) = ltb x y && is_rising (y ∷ l)
+
+unfoldable pub is_patterns : ℕ → List ℕ → Bool
+is_patterns s l = leb (length l) most_points && (is_rising l && is_below (3 ^ s) l)

@@ -1,18 +1,10 @@
 -- `signs::below` meets its contract: the test is that of the numbers passed and of those left.
-use Prim.Native.Nat.{◌-◌}
 use native.Mathlib.Omega.{arith}
 use Rattle.signs.proofs.Orders.{below_next, below_end}
 use Rattle.signs.proofs.below.Goals as goal
 
-pub loop-k-preserved : goal.loop-k-preserved
-loop-k-preserved c =
-    let a = c.args in (
-      omega arith,
-      below_next a.bound c.loop-k.k a.l.now c.loop-k.all c.still_below-all.result (omega arith)
-          c.still_below-all.ensures c.loop-k.invariant.1,
-    )
+pub loop-x-preserved : goal.loop-x-preserved
+loop-x-preserved c = below_next _ _ c.args.l.now _ (omega arith) c.loop-x.invariant
 
 pub returns : goal.returns
-returns c =
-    let a = c.args in
-    below_end a.bound c.loop-k.k a.l.now c.loop-k.all (omega arith) c.loop-k.invariant.1
+returns c = below_end _ c.loop-x.x-index c.args.l.now _ (omega arith) c.loop-x.invariant

@@ -1,13 +1,9 @@
--- `signs::below` meets its contract: the test is that of the numbers passed and of those left.
+-- `signs::below`: the test is that of the numbers passed and of those left.
 use mathlib.Core.Path.{◌≡◌}
 use mathlib.Core.Bool.{◌&&◌}
-use Prim.Native.Nat.{◌-◌, ◌≤◌}
-use lib.ListN.{length, drop}
+use lib.ListN.{drop}
 use Rattle.signs.specs.Lists.{is_below}
 use Rattle.signs.proofs.below.Given as goal
 
-abbrev pub invariant-loop-k : goal.invariant-loop-k
-invariant-loop-k l = (l.k ≤ length l.l) × (is_below l.bound l.l ≡ (l.all && is_below l.bound (drop l.k l.l)))
-
-abbrev pub decreases-loop-k : goal.decreases-loop-k
-decreases-loop-k l = length l.l - l.k
+abbrev pub invariant-loop-x : goal.invariant-loop-x
+invariant-loop-x l = is_below l.bound l.l ≡ (l.all && is_below l.bound (drop l.x-index l.l))

@@ -18,5 +18,5 @@ is_three_times c = three_times _ _ (omega arith) c.power.ensures
 pub overflow_mul-result : goal.overflow_mul-result
 overflow_mul-result c = omega (arith, is_three_times c, power-most c.args.s c.requires)
 
-pub returns : goal.returns
-returns c = is_three_times c
+pub returns-else-s-eq0 : goal.returns-else-s-eq0
+returns-else-s-eq0 c = is_three_times c

@@ -25,13 +25,13 @@ returns-then-s-gt4 c = (
   c.low_digits.ensures.twos_value ∙ c.high_digits.ensures.left_value_2 ∙ past 1 c.args.s 8 c.args.n c.requires.0 c.requires.1,
 )
 
-pub low_digits-requires-2 : goal.low_digits-requires-2
-low_digits-requires-2 c =
+pub low_digits-requires-else-s-gt4 : goal.low_digits-requires-else-s-gt4
+low_digits-requires-else-s-gt4 c =
     (below c.args.s 4 c.args.n (omega (arith, c.if-s-gt4.false)) c.requires.1, omega arith, omega arith)
 
-pub returns : goal.returns
-returns c =
+pub returns-else-s-gt4 : goal.returns-else-s-gt4
+returns-else-s-gt4 c =
     let h : c.args.s ≤ 4 = omega (arith, c.if-s-gt4.false) in (
-      c.low_digits-2.ensures.ones_value ∙ zero-add _ ∙ past 0 c.args.s 4 c.args.n h c.requires.1,
-      c.low_digits-2.ensures.twos_value ∙ zero-add _ ∙ past 1 c.args.s 4 c.args.n h c.requires.1,
+      c.low_digits-else-s-gt4.ensures.ones_value ∙ zero-add _ ∙ past 0 c.args.s 4 c.args.n h c.requires.1,
+      c.low_digits-else-s-gt4.ensures.twos_value ∙ zero-add _ ∙ past 1 c.args.s 4 c.args.n h c.requires.1,
     )
