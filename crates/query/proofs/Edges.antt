@@ -11,6 +11,10 @@ use mathlib.Core.List.{List, [], ◌∷◌, map}
 use Prim.Native.Nat.{ℕ}
 use lib.IntN.{pos, negsuc}
 use lib.ListN.{take}
+use Rattle.std.specs.Prelude.{Result, Ok}
+use Rattle.refusals.specs.Refusals.{refusing}
+use Rattle.refusals.specs.declared.Refusal.{Refusal}
+use Rattle.sign_counts.specs.declared.SignCounts.{SignCounts}
 use Rattle.integers.specs.Sums.{sum_to}
 use Rattle.signs.specs.Lists.{times, up_to}
 use Rattle.integers.specs.Powers.{power}
@@ -28,8 +32,6 @@ use Rattle.plane_checks.specs.Checks.{plane_refusal, plane_points_refusal}
 use Rattle.integers.specs.Search.{any_below}
 use Rattle.card.specs.Card.{contents_refusal, header_refusal, polynomial_refusal, coefficients_refusal, bodies_refusal, points_refusal}
 use Rattle.card.specs.Card.{refusal}
-use Rattle.query.specs.declared.Queried.{Queried}
-use Rattle.query.specs.declared.Queried.TheVariants as of-query
 use Rattle.query.specs.Query.{patterns_of, query_answer}
 use Rattle.query.specs.Claim.{number, shown_of}
 
@@ -55,8 +57,8 @@ circle =
     ∷ 2 ∷ 0 ∷ 1 ∷ 255 ∷ 255 ∷ 255 ∷ 255 ∷ 1 ∷ 0 ∷ 0 ∷ 0 ∷ 0 ∷ 1
     ∷ 253 ∷ 4 ∷ 0 ∷ 0 ∷ 3 ∷ 4 ∷ 4 ∷ 3 ∷ 6 ∷ 1 ∷ []
 
-abbrev tells : ℕ → ℕ → ℕ → Queried
-tells p n z = of-query.Counts (record { positive = p; negative = n; zero = z })
+abbrev tells : ℕ → ℕ → ℕ → Result SignCounts Refusal
+tells p n z = Ok (record { positive = p; negative = n; zero = z })
 
 abbrev root : List ℕ
 root = 1 ∷ 1 ∷ 1 ∷ 0 ∷ 0 ∷ 8 ∷ 0 ∷ 17 ∷ 1 ∷ 0 ∷ 0 ∷ 0 ∷ 0 ∷ 0 ∷ 0 ∷ 0 ∷ 1 ∷ 0 ∷ []
@@ -71,7 +73,7 @@ pub record QueryEdges : Type 0 where
   pub patterns : patterns_of example ≡ 26 ∷ 22 ∷ 13 ∷ []
   -- "Product 6,560 is allowed with s = 8; 6,561: 13."
   pub last_product : query_answer eight 6560 ≡ tells 1 0 0
-  pub past_last : query_answer eight 6561 ≡ of-query.Refused 13
+  pub past_last : query_answer eight 6561 ≡ refusing 13
   -- a zero to the powers 0, 1, 2: a panel that shows 0 because the product is 0
   pub at_root : map (query_answer root) (0 ∷ 1 ∷ 2 ∷ []) ≡ tells 1 0 0 ∷ tells 0 0 1 ∷ tells 0 0 1 ∷ []
   -- and one that shows 0 because + and − are as many
@@ -79,14 +81,14 @@ pub record QueryEdges : Type 0 where
   -- in the plane: 0 and −, − and 0, 0 and −, 0 and +, + and +; the circle alone, the line alone, and both with a square
   pub plane-patterns : patterns_of circle ≡ 6 ∷ 2 ∷ 6 ∷ 3 ∷ 4 ∷ []
   pub in_plane : map (query_answer circle) (0 ∷ 1 ∷ 3 ∷ 7 ∷ 9 ∷ [])
-      ≡ tells 5 0 0 ∷ tells 1 1 3 ∷ tells 2 2 1 ∷ tells 1 0 4 ∷ of-query.Refused 13 ∷ []
+      ≡ tells 5 0 0 ∷ tells 1 1 3 ∷ tells 2 2 1 ∷ tells 1 0 4 ∷ refusing 13 ∷ []
   -- X at −1, 0, 0, 0, 1 and 1, and X and Y at (2, 1), (2, 1), (2, 3) and (4, 3): a point that stands two or three times counts once
   -- (document 02, wish 7), and others with its X, or with its pattern, for themselves
   pub once : map (query_answer again) (0 ∷ 1 ∷ 2 ∷ []) ≡ tells 3 0 0 ∷ tells 1 1 1 ∷ tells 2 0 1 ∷ []
   pub plane-once : map (query_answer twice) (0 ∷ 1 ∷ 3 ∷ []) ≡ tells 3 0 0 ∷ tells 3 0 0 ∷ tells 3 0 0 ∷ []
   pub one_pattern : patterns_of twice ≡ 4 ∷ 4 ∷ 4 ∷ []
   -- a card cut short is refused before the product
-  pub card-first : query_answer (take 41 example) 27 ≡ of-query.Refused 1
+  pub card-first : query_answer (take 41 example) 27 ≡ refusing 1
 
 pub query_edges : QueryEdges
 unfolding query_answer counts_in sign_counts times product_to patterns_in pattern_to up_to sum_to power value plane_value value_at

@@ -1,4 +1,5 @@
 pub mod Words
+pub mod Listed
 pub mod Counting
 pub mod Opening
 pub mod Own

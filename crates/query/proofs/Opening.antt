@@ -2,7 +2,7 @@
 --
 --   Filled K d s l == the list l holds the words of the first s polynomials of K for the sign digit d, and 0 for the others
 use mathlib.Core.Path.{◌≡◌, refl, sym, ap, subst, ◌∙◌}
-use mathlib.Core.Bool.{Bool, true, false, ◌||◌}
+use mathlib.Core.Bool.{Bool, true, false, ◌||◌, ◌&&◌}
 use mathlib.Core.Logic.{⊎_elim}
 use mathlib.Core.List.{List, [], ◌∷◌, map, map-map}
 use Prim.Native.Nat.{ℕ, zero, suc, ◌+◌, ◌^◌, ◌<◌, ◌≤◌}
@@ -12,7 +12,14 @@ use borrow.Author.Tests.{lt-ltb, le-ltb, le-leb, lt-leb, ne_eqb}
 use lib.Dec.{ltb}
 use lib.ListN.{length, get_or, set, replicate, length-map, length-set, length-replicate}
 use lib.Seq.{ext_get_or, get_or-set_same, get_or-set_other}
+use Rattle.std.specs.Ordering.{is_le, nat_cmp}
+use Rattle.std.proofs.lemmas.Bool.Decides.{nat_tests}
 use Rattle.refusals.specs.Numbers.{wrong_count, wrong_product, card_numbers, is_among, ◌▸◌, unless}
+use Rattle.std.specs.Prelude.{Result, Ok, Err}
+use Rattle.refusals.specs.Refusals.{number_of, by_number, refusing}
+use Rattle.refusals.proofs.Refusals.{number_by}
+use Rattle.query.proofs.Listed.{card_number}
+use Rattle.refusals.specs.declared.Refusal.{Refusal}
 use Rattle.refusals.specs.Limits.{most_polynomials, most_points}
 use Rattle.integers.proofs.Tests.{eq_cases}
 use Rattle.signs.specs.Lists.{Below, up_to}
@@ -21,24 +28,22 @@ use Rattle.signs.specs.Bits.{bit_of}
 use Rattle.signs.proofs.Digitwise.{bit_le}
 use Rattle.signs.proofs.SignDigits.{digit-small}
 use Rattle.sign_counts.specs.Counts.{sign_counts}
+use Rattle.sign_counts.specs.declared.SignCounts.{SignCounts}
 use Rattle.contents.specs.Contents.{Contents, pattern_to, values_at, pattern_at, patterns_in}
 use Rattle.contents.specs.Counts.{counts_in, pattern_counts}
 use Rattle.contents.proofs.Patterns.{map_below}
 use Rattle.contents.proofs.Counts.{counts-patterns}
-use Rattle.layout.specs.Format.{polynomials, point_count}
+use Rattle.layout.specs.Format.{polynomials}
 use Rattle.plane.specs.Contents.{contents_of}
 use Rattle.layout.proofs.Contents.{up_to-long, map-up_to-at}
 use Rattle.plane.proofs.Contents.{points-few}
 use Rattle.layout.proofs.Twos.{below_or}
 use Rattle.card.specs.Card.{refusal}
-use Rattle.card.specs.Answers.{reading}
-use Rattle.card.specs.declared.Card.TheVariants as card
+use Rattle.card.specs.Answers.{shape, reading}
 use Rattle.card.specs.Sound.{Sound}
 use Rattle.card.proofs.Sound.{sound, unrefused}
 use Rattle.card.proofs.Listed.{refusal_listed}
 use Rattle.query.specs.declared.Opened.{Opened}
-use Rattle.query.specs.declared.Queried.{Queried}
-use Rattle.query.specs.declared.Queried.TheVariants as of-query
 use Rattle.query.specs.Query.{query_answer}
 use Rattle.query.specs.Opened.{bit_at, point_bits, sign_word, word_in, words_in, digit_by, column_to, opened_sound, opened_refused, opened}
 use Rattle.query.specs.Opened.{counts_on, unlimited, own_number, refused_by, opened_answer}
@@ -130,30 +135,43 @@ unfolding opened
 opened-refused c zero e h = absurd (h refl)
 opened-refused c (suc m) e h = rw e refl
 
+-- a refused card's number is a card's
+pub refused_among : (c : List ℕ) → (refusal c ≡ 0 → ⊥) → is_among (refusal c) card_numbers ≡ true
+unfolding is_among
+refused_among c h = rw (ne_eqb (refusal c) 0 h) at (refusal_listed c).stands
+
+-- so its refusal has this number
+pub refusal_number : (c : List ℕ) → (refusal c ≡ 0 → ⊥) → number_of (by_number (refusal c)) ≡ refusal c
+refusal_number c h = let w = card_number (refusal c) (refused_among c h) in number_by (refusal c) w.0 w.1
+
 -- what `card::read` gives is what is opened
-pub opened_read : (c : List ℕ) (m : ℕ) → reading c ≡ card.Refused m → opened_refused m ≡ opened c
+pub opened_read : (c : List ℕ) (e : Refusal) → reading c ≡ Err e → opened_refused (number_of e) ≡ opened c
 unfolding reading opened
-opened_read c m = go (refusal c)
+opened_read c e = go (refusal c) refl
   where
-    go : (k : ℕ) → unless k card.Refused (card.Sound (polynomials c) (point_count c)) ≡ card.Refused m
-        → opened_refused m ≡ unless k opened_refused (opened_sound (contents_of c))
-    go zero e = let z : ◌≡◌ {A = ℕ} 0 1 = cc in absurd (omega arith)
-    go (suc k) e = let z : m ≡ suc k = cc in ap opened_refused z
+    go : (k : ℕ) → refusal c ≡ k → unless k refusing (Ok (shape c)) ≡ Err e
+        → opened_refused (number_of e) ≡ unless k opened_refused (opened_sound (contents_of c))
+    go zero f q = let z : ◌≡◌ {A = ℕ} 0 1 = cc in absurd (omega arith)
+    go (suc k) f q =
+        let z : by_number (suc k) ≡ e = cc in
+        let n : number_of e ≡ suc k =
+        ap number_of (sym z) ∙ ap (λ (i : ℕ). number_of (by_number i)) (sym f) ∙ refusal_number c (λ h. omega (arith, h, f)) ∙ f in
+        ap opened_refused n
 
 -- ---- what an opened card answers
 
-own : (m x : ℕ) (a : Queried) → (m ≡ 0 → ⊥) → of-query.Refused m ≡ unless (m ▸ x) of-query.Refused a
+own : (m x : ℕ) (a : Result SignCounts Refusal) → (m ≡ 0 → ⊥) → refusing m ≡ unless (m ▸ x) refusing a
 own zero x a h = absurd (h refl)
 own (suc m) x a h = refl
 
 -- its own number, or 3 where that is no card's
-own-card : (m x : ℕ) (a : Queried) → (m ≡ 0 → ⊥) → is_among m card_numbers ≡ true
-    → of-query.Refused m ≡ unless (own_number m ▸ x) of-query.Refused a
+own-card : (m x : ℕ) (a : Result SignCounts Refusal) → (m ≡ 0 → ⊥) → is_among m card_numbers ≡ true
+    → refusing m ≡ unless (own_number m ▸ x) refusing a
 own-card zero x a z h = absurd (z refl)
 own-card (suc m) x a z h = rw h refl
 
-own_other : (m x : ℕ) (a : Queried) → (m ≡ 0 → ⊥) → is_among m card_numbers ≡ false
-    → of-query.Refused wrong_count ≡ unless (own_number m ▸ x) of-query.Refused a
+own_other : (m x : ℕ) (a : Result SignCounts Refusal) → (m ≡ 0 → ⊥) → is_among m card_numbers ≡ false
+    → refusing wrong_count ≡ unless (own_number m ▸ x) refusing a
 own_other zero x a z h = absurd (z refl)
 own_other (suc m) x a z h = rw h refl
 
@@ -167,6 +185,13 @@ few s n h = rw (lt-ltb s 1 h) refl
 pub many : (s n : ℕ) → 1 ≤ s → most_polynomials < s → out_limits s n ≡ true
 many s n l h = rw (le-ltb s 1 l, lt-ltb most_polynomials s h) refl
 
+-- as a range of s says it
+pub beyond : (s n : ℕ) → (is_le (nat_cmp 1 s) && is_le (nat_cmp s most_polynomials)) ≡ false → out_limits s n ≡ true
+beyond s n e = grind (arith, nat_tests)
+
+pub within : (s : ℕ) → (is_le (nat_cmp 1 s) && is_le (nat_cmp s most_polynomials)) ≡ true → (1 ≤ s) × (s ≤ most_polynomials)
+within s e = (grind (arith, nat_tests), grind (arith, nat_tests))
+
 pub crowded : (s n : ℕ) → 1 ≤ s → s ≤ most_polynomials → most_points < n → out_limits s n ≡ true
 crowded s n l m h = rw (le-ltb s 1 l, le-ltb most_polynomials s m, lt-ltb most_points n h) refl
 
@@ -174,24 +199,24 @@ pub limits : (s n : ℕ) → 1 ≤ s → s ≤ most_polynomials → n ≤ most_p
 limits s n l m h = rw (le-ltb s 1 l, le-ltb most_polynomials s m, le-ltb most_points n h) refl
 
 module _ (o : Opened) (α : ℕ) where
-  pub answer_foreign : (o.refusal ≡ 0 → ⊥) → is_among o.refusal card_numbers ≡ false → of-query.Refused wrong_count ≡ opened_answer o α
+  pub answer_foreign : (o.refusal ≡ 0 → ⊥) → is_among o.refusal card_numbers ≡ false → refusing wrong_count ≡ opened_answer o α
   unfolding opened_answer refused_by
   answer_foreign z h = own_other o.refusal _ _ z h
 
-  pub answer-own : (o.refusal ≡ 0 → ⊥) → is_among o.refusal card_numbers ≡ true → of-query.Refused o.refusal ≡ opened_answer o α
+  pub answer-own : (o.refusal ≡ 0 → ⊥) → is_among o.refusal card_numbers ≡ true → refusing o.refusal ≡ opened_answer o α
   unfolding opened_answer refused_by
   answer-own z h = own-card o.refusal _ _ z h
 
-  pub answer-limits : o.refusal ≡ 0 → unlimited o ≡ true → of-query.Refused wrong_count ≡ opened_answer o α
+  pub answer-limits : o.refusal ≡ 0 → unlimited o ≡ true → refusing wrong_count ≡ opened_answer o α
   unfolding opened_answer refused_by
   answer-limits e u = rw (e, u) refl
 
-  pub answer_product : o.refusal ≡ 0 → unlimited o ≡ false → 3 ^ o.s ≤ α → of-query.Refused wrong_product ≡ opened_answer o α
+  pub answer_product : o.refusal ≡ 0 → unlimited o ≡ false → 3 ^ o.s ≤ α → refusing wrong_product ≡ opened_answer o α
   unfolding opened_answer refused_by
   answer_product e u h = rw (e, u, le-leb (3 ^ o.s) α h) refl
 
   pub answer-counts : o.refusal ≡ 0 → unlimited o ≡ false → α < 3 ^ o.s
-      → of-query.Counts (counts_on o α) ≡ opened_answer o α
+      → Ok (counts_on o α) ≡ opened_answer o α
   unfolding opened_answer refused_by
   answer-counts e u h = rw (e, u, lt-leb (3 ^ o.s) α h) refl
 
@@ -257,17 +282,12 @@ module _ (c : List ℕ) (α : ℕ) where
       let u = limits (polynomials c) (length K.points) h.s_least h.s_most (omega (arith, points-few c, h.n_most)) in
       let e = unrefused c h in
       ⊎_elim (λ b. rw (e, lt-leb (3 ^ polynomials c) α b)
-      (sym (answer-counts (opened_sound K) α refl u b) ∙ ap of-query.Counts (counts_are K h.s_most α)))
+      (sym (answer-counts (opened_sound K) α refl u b) ∙ ap Ok (counts_are K h.s_most α)))
       (λ b. rw (e, le-leb (3 ^ polynomials c) α b) (sym (answer_product (opened_sound K) α refl u b))) (below_or α (3 ^ polynomials c))
-
-  -- a refused card's number is a card's
-  refused_among : (refusal c ≡ 0 → ⊥) → is_among (refusal c) card_numbers ≡ true
-  unfolding is_among
-  refused_among h = rw (ne_eqb (refusal c) 0 h) at (refusal_listed c).stands
 
   answer-refused : (refusal c ≡ 0 → ⊥) → opened_answer (opened_refused (refusal c)) α ≡ query_answer c α
   unfolding query_answer
-  answer-refused h = sym (answer-own (opened_refused (refusal c)) α h (refused_among h)) ∙ own (refusal c) _ _ h
+  answer-refused h = sym (answer-own (opened_refused (refusal c)) α h (refused_among c h)) ∙ own (refusal c) _ _ h
 
   pub answer-opened : opened_answer (opened c) α ≡ query_answer c α
   answer-opened =

@@ -14,8 +14,10 @@
 --   OpenedTells o α r              == the opened card o answers r: at how many of its points the sign of the product, on the pattern that
 --                                     the bits say, is +, − and 0; the panel shows the sum of these signs; and the three add up to the
 --                                     points
-use Rattle.std.specs.Prelude.{◌≡◌, ◌≢◌, List, ℕ, ◌^◌, ◌<◌, ◌≤◌, ℤ, length}
+use Rattle.std.specs.Prelude.{◌≡◌, ◌≢◌, List, ℕ, ◌^◌, ◌<◌, ◌≤◌, ℤ, length, Result, Ok, Err}
 use Rattle.refusals.specs.Numbers.{card_numbers, Among}
+use Rattle.refusals.specs.Refusals.{number_of, refusing}
+use Rattle.refusals.specs.declared.Refusal.{Refusal}
 use Rattle.signs.specs.Signs.{query}
 use Rattle.sign_counts.specs.Counts.{panel_number, in_all}
 use Rattle.sign_counts.specs.declared.SignCounts.{SignCounts}
@@ -26,22 +28,20 @@ use Rattle.card.specs.Claim.{CardGives}
 use Rattle.query.specs.Query.{query_of, counts_of, patterns_of}
 use Rattle.query.specs.Opened.{counts_on, summed}
 use Rattle.query.specs.declared.Opened.{Opened}
-use Rattle.query.specs.declared.Queried.{Queried}
-use Rattle.query.specs.declared.Queried.TheVariants as of-query
 
 -- what the panel shows
 pub data Shown : Type 0 where
   number : ℤ → Shown
   refused : ℕ → Shown
 
-abbrev pub shown_of : Queried → Shown
-shown_of (of-query.Counts t) = number (panel_number t)
-shown_of (of-query.Refused k) = refused k
+abbrev pub shown_of : Result SignCounts Refusal → Shown
+shown_of (Ok t) = number (panel_number t)
+shown_of (Err e) = refused (number_of e)
 
-abbrev Shows : List ℕ → ℕ → Queried → ℤ → Type 0
+abbrev Shows : List ℕ → ℕ → Result SignCounts Refusal → ℤ → Type 0
 Shows c α o z = CardGives c (α < 3 ^ polynomials c) 13 refused (number z) (shown_of o)
 
-pub record QueryGives (c : List ℕ) (α : ℕ) (o : Queried) : Type 0 where
+pub record QueryGives (c : List ℕ) (α : ℕ) (o : Result SignCounts Refusal) : Type 0 where
   -- the sign of the value of the product, "power 0 of sign 0 being 1"
   pub by_values : Shows c α o (query_of c α)
   -- and the product of the signs, from the points' patterns
@@ -49,16 +49,16 @@ pub record QueryGives (c : List ℕ) (α : ℕ) (o : Queried) : Type 0 where
 
 -- ---- all three counts (document 02, wish 4)
 
-abbrev Tells : List ℕ → ℕ → Queried → SignCounts → Type 0
-Tells c α o t = CardGives c (α < 3 ^ polynomials c) 13 of-query.Refused (of-query.Counts t) o
+abbrev Tells : List ℕ → ℕ → Result SignCounts Refusal → SignCounts → Type 0
+Tells c α o t = CardGives c (α < 3 ^ polynomials c) 13 refusing (Ok t) o
 
-pub record QueryTells (c : List ℕ) (α : ℕ) (o : Queried) : Type 0 where
+pub record QueryTells (c : List ℕ) (α : ℕ) (o : Result SignCounts Refusal) : Type 0 where
   -- the value of the product positive, negative and 0
   pub by_values : Tells c α o (counts_of c α)
   -- its sign on the points' patterns +, − and 0
   pub by_signs : Tells c α o (pattern_counts (polynomials c) (patterns_of c) α)
   -- "The three add up to the points counted."
-  pub add_up : (t : SignCounts) → o ≡ of-query.Counts t → in_all t ≡ length (contents_of c).points
+  pub add_up : (t : SignCounts) → o ≡ Ok t → in_all t ≡ length (contents_of c).points
 
 -- ---- any opened card, also one that no card opens to (demand 1)
 
@@ -72,8 +72,8 @@ pub record OpenedGives {A : Type 0} (o : Opened) (α : ℕ) (refused : ℕ → A
   pub past : o.refusal ≡ 0 → InLimits o → 3 ^ o.s ≤ α → r ≡ refused 13
   pub shown : o.refusal ≡ 0 → InLimits o → α < 3 ^ o.s → r ≡ what
 
-pub record OpenedTells (o : Opened) (α : ℕ) (r : Queried) : Type 0 where
-  pub counts : OpenedGives o α of-query.Refused (of-query.Counts (counts_on o α)) r
+pub record OpenedTells (o : Opened) (α : ℕ) (r : Result SignCounts Refusal) : Type 0 where
+  pub counts : OpenedGives o α refusing (Ok (counts_on o α)) r
   -- the first less the second is the sum of the signs
   pub panel : OpenedGives o α refused (number (summed o α)) (shown_of r)
-  pub add_up : (t : SignCounts) → r ≡ of-query.Counts t → in_all t ≡ o.n
+  pub add_up : (t : SignCounts) → r ≡ Ok t → in_all t ≡ o.n

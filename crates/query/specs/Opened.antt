@@ -23,9 +23,11 @@
 --                       limits, then 13 for the product. No card opens to a number of none or outside the limits: an opened card may hold
 --                       anything
 --   opened_answer o α == what the opened card o answers to the product α: the number that refuses, else the three counts
-use Rattle.std.specs.Prelude.{Bool, cond, ◌||◌, List, [], ◌∷◌, map, ℕ, zero, suc, ◌+◌, ◌*◌, ◌/◌, ◌%◌, ◌^◌, eqb, ltb, leb, ℤ, length, get_or}
+use Rattle.std.specs.Prelude.{Bool, cond, ◌||◌, List, [], ◌∷◌, map, ℕ, zero, suc, ◌+◌, ◌*◌, ◌/◌, ◌%◌, ◌^◌, eqb, ltb, leb, ℤ, length, get_or, Result, Ok}
 use Rattle.std.specs.Prelude.{replicate}
 use Rattle.refusals.specs.Numbers.{wrong_count, wrong_product, card_numbers, is_among, ◌when◌, ◌▸◌, unless}
+use Rattle.refusals.specs.Refusals.{refusing}
+use Rattle.refusals.specs.declared.Refusal.{Refusal}
 use Rattle.refusals.specs.Limits.{most_polynomials, most_points}
 use Rattle.integers.specs.Sums.{sum_to}
 use Rattle.signs.specs.Lists.{up_to}
@@ -36,8 +38,6 @@ use Rattle.sign_counts.specs.declared.SignCounts.{SignCounts}
 use Rattle.contents.specs.Contents.{Contents}
 use Rattle.plane.specs.Contents.{contents_of}
 use Rattle.card.specs.Card.{refusal}
-use Rattle.query.specs.declared.Queried.{Queried}
-use Rattle.query.specs.declared.Queried.TheVariants as of-query
 use Rattle.query.specs.declared.Opened as opened-card
 
 -- ---- words
@@ -106,5 +106,5 @@ refused_by o α =
     ▸ wrong_count when unlimited o
     ▸ wrong_product when leb (3 ^ o.s) α
 
-unfoldable pub opened_answer : opened-card.Opened → ℕ → Queried
-opened_answer o α = unless (refused_by o α) of-query.Refused (of-query.Counts (counts_on o α))
+unfoldable pub opened_answer : opened-card.Opened → ℕ → Result SignCounts Refusal
+opened_answer o α = unless (refused_by o α) refusing (Ok (counts_on o α))

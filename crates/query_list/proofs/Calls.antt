@@ -2,7 +2,7 @@
 -- list is written number k is what the query of product k shows. Each call is known by its contract alone (`Learnt`), so that a weaker
 -- promise of any of them breaks the theorem.
 use mathlib.Core.Path.{◌≡◌, refl, sym, ap, subst, ◌∙◌}
-use mathlib.Core.Logic.{◌⊎◌, ⊎_elim}
+use mathlib.Core.Logic.{⊎_elim}
 use mathlib.Core.List.{List}
 use Prim.Native.Nat.{ℕ, ◌^◌, ◌<◌, ◌≤◌}
 use native.Mathlib.Decide.{dec_lt}
@@ -26,40 +26,47 @@ use Rattle.query.specs.Opened.{summed, own_refusal, opened_answer}
 use Rattle.query.specs.Claim as shown_by
 use Rattle.query.specs.Claim.{shown_of}
 use Rattle.query.specs.declared.Opened.{Opened}
-use Rattle.query.specs.declared.Queried.{Queried}
-use Rattle.query.specs.declared.Queried.TheVariants as of-query
 use Rattle.query.proofs.Calls.{answer_tells, answer-gives, opened-gives}
 use Rattle.query.proofs.Counting.{counts-summed}
 use Rattle.query.proofs.Own.{own_none, own-refused, answer-within}
 use Rattle.query.proofs.query.Reads as query
 use Rattle.query.proofs.open.Reads as open-card
 use Rattle.query.proofs.ask.Reads as ask
-use Rattle.query_list.specs.Listing.{first_bad, numbers_put, listing, card_listing, opened_listing}
+use Rattle.query_list.specs.Listing.{Listed, written, refused, refused_at, first_bad, numbers_put, listing, card_listing, opened_listing}
 use Rattle.query_list.specs.Claim.{AllBelow, FirstPast, ListGives, Kept, QueryAllGives, AskAllGives}
-use Rattle.query_list.specs.declared.Numbered.{Numbered}
-use Rattle.query_list.specs.declared.Numbered.TheVariants.{Written, Refused, RefusedAt}
-use Rattle.query_list.proofs.Listing.{bad_cases, refused-card, refused-short, refused_bad, written, put-long, put-at, put_rest}
+use Rattle.refusals.specs.Refusals.{by_number, refusing}
+use Rattle.refusals.specs.declared.Refusal.{Refusal}
+use Rattle.refusals.specs.declared.Refusal.TheVariants.{WrongLength, WrongProduct, TooShort}
+use Rattle.refusals.proofs.Refusals.{by_own}
+use Rattle.sign_counts.specs.declared.SignCounts.{SignCounts}
+use Rattle.std.specs.Prelude.{Option, None, Some, Result, Ok, Err}
+use Rattle.query_list.proofs.Listing.{bad_cases, refused-card, refused-short, refused_bad, all-written, put-long, put-at, put_rest}
 use Rattle.query_list.proofs.Listing.{listing-opened}
 use Rattle.query_list.proofs.query_all.Reads as query-all
 use Rattle.query_list.proofs.ask_all.Reads as ask-all
 
 -- ---- the definition, on a card that is not refused
 
--- an answer by numbers: its kind, the number that refuses and the position
-abbrev kind : Numbered → ℕ
-kind Written = 0
-kind (Refused m) = 1
-kind (RefusedAt m p) = 2
+-- an answer by its parts: its kind, what refuses and the position
+abbrev by_position : Option ℕ → ℕ
+by_position None = 1
+by_position (Some p) = 2
 
-abbrev number_of : Numbered → ℕ
-number_of Written = 0
-number_of (Refused m) = m
-number_of (RefusedAt m p) = m
+abbrev kind : Listed → ℕ
+kind (Ok u) = 0
+kind (Err r) = by_position r.position
 
-abbrev position_of : Numbered → ℕ
-position_of Written = 0
-position_of (Refused m) = 0
-position_of (RefusedAt m p) = p
+abbrev cause : Listed → Refusal
+cause (Ok u) = WrongLength
+cause (Err r) = r.refusal
+
+abbrev or_none : Option ℕ → ℕ
+or_none None = 0
+or_none (Some p) = p
+
+abbrev position_of : Listed → ℕ
+position_of (Ok u) = 0
+position_of (Err r) = or_none r.position
 
 -- there is one first bad product
 one-first : (b : ℕ) (l : List ℕ) (p q : ℕ) → FirstPast b l p → FirstPast b l q → p ≡ q
@@ -72,9 +79,9 @@ one-first b l p q f g = go (dec_lt p q) (dec_lt q p)
 
 module _ (s : ℕ) (number : ℕ → ℤ) (l : List ℕ) (out : List ℤ) where
   -- the three ways, each with its cause
-  by_15 : length out < length l → ListGives s number l out (Refused 15) out
+  by_15 : length out < length l → ListGives s number l out (refused TooShort) out
   by_15 h = record {
-    is_15 = λ m. (λ e. (sym (ap number_of e), h), λ c. ap Refused (sym c.0));
+    is_15 = λ m. (λ e. (sym (ap cause e), h), λ c. ap refused (sym c.0));
     is_13 = λ m p. (λ e. absurd (let x = ap kind e in omega arith), λ c. absurd (let x = c.1 in omega arith));
     is_written = (λ e. absurd (let x = ap kind e in omega arith), λ c. absurd (let x = c.0 in omega arith));
     kept = λ n. refl;
@@ -83,11 +90,11 @@ module _ (s : ℕ) (number : ℕ → ℤ) (l : List ℕ) (out : List ℤ) where
     as_long = refl;
   }
 
-  by_13 : (p : ℕ) → length l ≤ length out → FirstPast (3 ^ s) l p → ListGives s number l out (RefusedAt 13 p) out
+  by_13 : (p : ℕ) → length l ≤ length out → FirstPast (3 ^ s) l p → ListGives s number l out (refused_at WrongProduct p) out
   by_13 p h f = record {
     is_15 = λ m. (λ e. absurd (let x = ap kind e in omega arith), λ c. absurd (let x = c.1 in omega arith));
     is_13 = λ m q. (
-      λ e. (sym (ap number_of e), h, subst (FirstPast (3 ^ s) l) (ap position_of e) f),
+      λ e. (sym (ap cause e), h, subst (FirstPast (3 ^ s) l) (ap position_of e) f),
       λ c. let x = c.0 in let y = one-first (3 ^ s) l p q f c.2 in cc,
     );
     is_written = (λ e. absurd (let x = ap kind e in omega arith), λ c. absurd (omega (arith, f.past, c.1 p f.stands)));
@@ -97,7 +104,7 @@ module _ (s : ℕ) (number : ℕ → ℤ) (l : List ℕ) (out : List ℤ) where
     as_long = refl;
   }
 
-  by_list : length l ≤ length out → AllBelow (3 ^ s) l → ListGives s number l out Written (numbers_put number l out)
+  by_list : length l ≤ length out → AllBelow (3 ^ s) l → ListGives s number l out written (numbers_put number l out)
   by_list h b = record {
     is_15 = λ m. (λ e. absurd (let x = ap kind e in omega arith), λ c. absurd (let x = c.1 in omega arith));
     is_13 = λ m p. (λ e. absurd (let x = ap kind e in omega arith), λ c. absurd (omega (arith, c.2.past, b p c.2.stands)));
@@ -115,11 +122,11 @@ module _ (s : ℕ) (number : ℕ → ℤ) (l : List ℕ) (out : List ℤ) where
       rooms (yes h) = rw (refused-short m s number l out e h) (by_15 h)
       rooms (no h) =
           ⊎_elim (λ f. rw (refused_bad m s number l out e (omega arith) f.stands) (by_13 (first_bad (3 ^ s) l) (omega arith) f))
-          (λ n. rw (written m s number l out e (omega arith) (omega (arith, n.0))) (by_list (omega arith) (below_at (3 ^ s) l n.1)))
+          (λ n. rw (all-written m s number l out e (omega arith) (omega (arith, n.0))) (by_list (omega arith) (below_at (3 ^ s) l n.1)))
           (bad_cases (3 ^ s) l)
 
 -- by another route to the same numbers
-gives_same : {s : ℕ} {f g : ℕ → ℤ} {l : List ℕ} {out : List ℤ} {o : Numbered} {out' : List ℤ} → ((α : ℕ) → f α ≡ g α)
+gives_same : {s : ℕ} {f g : ℕ → ℤ} {l : List ℕ} {out : List ℤ} {o : Listed} {out' : List ℤ} → ((α : ℕ) → f α ≡ g α)
     → ListGives s f l out o out' → ListGives s g l out o out'
 gives_same {l = l} e d = record {
   is_15 = d.is_15;
@@ -132,7 +139,7 @@ gives_same {l = l} e d = record {
 }
 
 -- where the list is written, the card is not refused
-not_refused : (m s : ℕ) (number : ℕ → ℤ) (l : List ℕ) (out : List ℤ) → (listing m s number l out).0 ≡ Written → m ≡ 0
+not_refused : (m s : ℕ) (number : ℕ → ℤ) (l : List ℕ) (out : List ℤ) → (listing m s number l out).0 ≡ written → m ≡ 0
 not_refused m s number l out w = ⊎_elim (λ e. e.0) (λ n. absurd (clash n.0)) (eq_cases m 0)
   where
     clash : (m ≡ 0 → ⊥) → ⊥
@@ -156,14 +163,14 @@ module _ (c l : List ℕ) (out : List ℤ) where
       unsound : (Sound c → ⊥) → Kept (refusal c) out (card_listing c l out).0 (card_listing c l out).1
       unsound n = rw (refused-card (refusal c) (polynomials c) (query_of c) l out (λ z. n (sound c z))) (refl, refl)
 
-module _ (κs : Lfts 3) (card products : Bor (List ℕ)) (out out' : MutBor (List ℤ)) (o : Numbered)
+module _ (κs : Lfts 3) (card products : Bor (List ℕ)) (out out' : MutBor (List ℤ)) (o : Listed)
     (called : query-all.Learnt κs (card, (products, (out, tt))) o (card, (products, (out', tt)))) where
   -- WISH 5 on a card
   pub list_gives : QueryAllGives card.now products.now out.now o out'.now
   list_gives = rw (ap (λ g. g.0) called, ap (λ g. g.1) called) (card-gives card.now products.now out.now)
 
   -- number k is what the query of product k shows
-  pub list_shows : o ≡ Written → (k : ℕ) → k < length products.now → (κ : Lfts 1) (a : Product) (q : Queried)
+  pub list_shows : o ≡ written → (k : ℕ) → k < length products.now → (κ : Lfts 1) (a : Product) (q : Result SignCounts Refusal)
       → a.0 ≡ get_or products.now k 0 → query.Learnt κ (card, (a, tt)) q (card, (a, tt))
       → shown_of q ≡ shown_by.number (get_or out'.now k (pos 0))
   list_shows w k h κ a q e asked =
@@ -178,11 +185,11 @@ module _ (κs : Lfts 3) (card products : Bor (List ℕ)) (out out' : MutBor (Lis
 -- ---- an opened card
 
 module _ (k : Opened) (l : List ℕ) (out : List ℤ) where
-  kept : (m : ℕ) → opened_answer k 0 ≡ of-query.Refused m → Kept m out (opened_listing k l out).0 (opened_listing k l out).1
+  kept : (m : ℕ) → opened_answer k 0 ≡ refusing m → Kept m out (opened_listing k l out).0 (opened_listing k l out).1
   kept m e =
-      let (f, p) = own-refused k m e in
-      let g = refused-card (own_refusal k) k.s _ l out (λ z. omega (arith, f, p, z)) in
-      (ap (λ t. t.0) g ∙ ap Refused f, ap (λ t. t.1) g)
+      let (f, p) = own-refused k (by_number m) e in
+      let g = refused-card (own_refusal k) k.s _ l out (λ z. omega (arith, p, z)) in
+      (ap (λ t. t.0) g ∙ ap refused (ap by_number f ∙ by_own (by_number m)), ap (λ t. t.1) g)
 
   pub opened_list : AskAllGives k l out (opened_listing k l out).0 (opened_listing k l out).1
   opened_list = record {
@@ -193,14 +200,14 @@ module _ (k : Opened) (l : List ℕ) (out : List ℤ) where
         listing-gives k.s (summed k) l out (own_refusal k) (own_none k _ ((opened-gives k 0).shown e h (one-le-pow _ 3 (omega arith))));
   }
 
-module _ (κs : Lfts 2) (k : Opened) (products : Bor (List ℕ)) (out out' : MutBor (List ℤ)) (o : Numbered)
+module _ (κs : Lfts 2) (k : Opened) (products : Bor (List ℕ)) (out out' : MutBor (List ℤ)) (o : Listed)
     (called : ask-all.Learnt κs (k, (products, (out, tt))) o (k, (products, (out', tt)))) where
   -- WISH 5 on an opened card, whatever it holds
   pub opened_list_gives : AskAllGives k products.now out.now o out'.now
   opened_list_gives = rw (ap (λ g. g.0) called, ap (λ g. g.1) called) (opened_list k products.now out.now)
 
   -- number j is what the query of product j shows
-  pub opened_list_shows : o ≡ Written → (j : ℕ) → j < length products.now → (a : Product) (q : Queried)
+  pub opened_list_shows : o ≡ written → (j : ℕ) → j < length products.now → (a : Product) (q : Result SignCounts Refusal)
       → a.0 ≡ get_or products.now j 0 → ask.Learnt tt (k, (a, tt)) q (k, (a, tt))
       → shown_of q ≡ shown_by.number (get_or out'.now j (pos 0))
   opened_list_shows w j h a q e asked =

@@ -3,14 +3,13 @@
 use mathlib.Core.Path.{◌≡◌, refl, sym, ap, ◌∙◌, fun_ext}
 use mathlib.Core.Logic.{◌⊎◌, inl, inr, ⊎_elim}
 use mathlib.Core.List.{List, [], ◌∷◌, map}
-use Prim.Native.Nat.{ℕ, zero, suc, ◌+◌, ◌^◌, ◌<◌, ◌≤◌}
+use Prim.Native.Nat.{ℕ, zero, suc, ◌^◌, ◌<◌, ◌≤◌}
 use native.Mathlib.Omega.{arith}
 use native.Mathlib.Nat.{one-le-pow}
 use borrow.Author.Tests.{lt-ltb, le-ltb, lt-leb, le-leb}
 use lib.IntN.{ℤ, pos}
-use lib.ListN.{length, get_or, take, drop, set, length-map, length-append, length-drop, drop_of_length-le}
-use lib.Seq.{drop-cons, drop_at}
-use Rattle.refusals.specs.Numbers.{wrong_product, too_short}
+use lib.ListN.{length, get_or, take, drop, set, length-map, length-append, length-drop}
+use lib.Seq.{drop_at}
 use Rattle.integers.proofs.Tests.{eq_cases}
 use Rattle.signs.specs.Lists.{Below}
 use Rattle.sign_counts.specs.Counts.{panel_number}
@@ -25,28 +24,15 @@ use Rattle.query.specs.declared.Opened.{Opened}
 use Rattle.query.proofs.Answers.{query-sound, query-refused}
 use Rattle.query.proofs.Counting.{counts-summed}
 use Rattle.query.proofs.Own.{own_none, own-refused}
-use Rattle.query.proofs.Opening.{opened-sound, counts_are, answer-opened}
-use Rattle.query_list.specs.Listing.{first_bad, numbers_put, listing, card_listing, opened_listing}
+use Rattle.refusals.specs.Refusals.{by_number}
+use Rattle.refusals.specs.declared.Refusal.TheVariants.{TooShort, WrongProduct}
+use Rattle.query.proofs.Opening.{refusal_number, opened-sound, counts_are, answer-opened}
+use Rattle.query_list.specs.Listing.{written, refused, refused_at, first_bad, numbers_put, listing, card_listing, opened_listing}
 use Rattle.query_list.specs.Claim.{FirstPast}
-use Rattle.query_list.specs.declared.Numbered.TheVariants.{Written, Refused, RefusedAt}
 
 -- ---- the first bad product
 
 module _ (b : ℕ) where
-  -- a loop over the list: the number at k is bad, or it is not, or none is left
-  pub bad_here : (k : ℕ) (l : List ℕ) → k < length l → b ≤ get_or l k 0 → first_bad b l ≡ k + first_bad b (drop k l) → first_bad b l ≡ k
-  unfolding first_bad
-  bad_here k l h q e = e ∙ rw (drop-cons l k 0 h, le-leb b (get_or l k 0) q) (omega arith)
-
-  pub bad_later : (k : ℕ) (l : List ℕ) → k < length l → get_or l k 0 < b → first_bad b l ≡ k + first_bad b (drop k l)
-      → first_bad b l ≡ suc k + first_bad b (drop (suc k) l)
-  unfolding first_bad
-  bad_later k l h q e = e ∙ rw (drop-cons l k 0 h, lt-leb b (get_or l k 0) q) (omega arith)
-
-  pub bad_none : (k : ℕ) (l : List ℕ) → length l ≤ k → first_bad b l ≡ k + first_bad b (drop k l) → first_bad b l ≡ k
-  unfolding first_bad
-  bad_none k l h e = e ∙ rw (drop_of_length-le l h) (omega arith)
-
   first_here : (a : ℕ) (l : List ℕ) → b ≤ a → FirstPast b (a ∷ l) 0
   first_here a l h = record { stands = omega arith; past = h; first = λ k g. absurd (omega arith) }
 
@@ -71,27 +57,27 @@ module _ (b : ℕ) where
 -- ---- the answers
 
 module _ (m s : ℕ) (number : ℕ → ℤ) (l : List ℕ) (out : List ℤ) where
-  pub refused-card : (m ≡ 0 → ⊥) → listing m s number l out ≡ (Refused m, out)
+  pub refused-card : (m ≡ 0 → ⊥) → listing m s number l out ≡ (refused (by_number m), out)
   unfolding listing
   refused-card h = go m refl
     where
-      go : (k : ℕ) → m ≡ k → listing m s number l out ≡ (Refused m, out)
+      go : (k : ℕ) → m ≡ k → listing m s number l out ≡ (refused (by_number m), out)
       go zero e = absurd (h e)
       go (suc k) e = unfold listing in rw e refl
 
-  pub refused-short : m ≡ 0 → length out < length l → listing m s number l out ≡ (Refused too_short, out)
+  pub refused-short : m ≡ 0 → length out < length l → listing m s number l out ≡ (refused TooShort, out)
   unfolding listing
   refused-short e h = rw (e, lt-ltb (length out) (length l) h) refl
 
   pub refused_bad : m ≡ 0 → length l ≤ length out → first_bad (3 ^ s) l < length l
-      → listing m s number l out ≡ (RefusedAt wrong_product (first_bad (3 ^ s) l), out)
+      → listing m s number l out ≡ (refused_at WrongProduct (first_bad (3 ^ s) l), out)
   unfolding listing
   refused_bad e h q = rw (e, le-ltb (length out) (length l) h, lt-ltb (first_bad (3 ^ s) l) (length l) q) refl
 
-  pub written : m ≡ 0 → length l ≤ length out → length l ≤ first_bad (3 ^ s) l
-      → listing m s number l out ≡ (Written, numbers_put number l out)
+  pub all-written : m ≡ 0 → length l ≤ length out → length l ≤ first_bad (3 ^ s) l
+      → listing m s number l out ≡ (written, numbers_put number l out)
   unfolding listing
-  written e h q = rw (e, le-ltb (length out) (length l) h, le-ltb (first_bad (3 ^ s) l) (length l) q) refl
+  all-written e h q = rw (e, le-ltb (length out) (length l) h, le-ltb (first_bad (3 ^ s) l) (length l) q) refl
 
 -- ---- what the stores leave
 
@@ -125,8 +111,8 @@ module _ (c l : List ℕ) (out : List ℤ) where
     where
       on-refused : (refusal c ≡ 0 → ⊥) → opened_listing (opened c) l out ≡ card_listing c l out
       on-refused h =
-          let e = (own-refused (opened c) (refusal c) (answer-opened c 0 ∙ query-refused c 0 h)).0 in
-          refused-card (own_refusal (opened c)) _ _ l out (λ z. h (sym e ∙ z)) ∙ ap (λ (k : ℕ). (Refused k, out)) e
+          let e = (own-refused (opened c) (by_number (refusal c)) (answer-opened c 0 ∙ query-refused c 0 h)).0 ∙ refusal_number c h in
+          refused-card (own_refusal (opened c)) _ _ l out (λ z. h (sym e ∙ z)) ∙ ap (λ (k : ℕ). (refused (by_number k), out)) e
           ∙ sym (refused-card (refusal c) _ _ l out h)
 
       on-sound : refusal c ≡ 0 → opened_listing (opened c) l out ≡ card_listing c l out

@@ -13,6 +13,9 @@
 --                                      3, and so are s and n outside their limits
 use Rattle.std.specs.Prelude.{◌≡◌, ◌≢◌, ◌↔◌, List, ℕ, ◌^◌, ◌<◌, ◌≤◌, ℤ, pos, length, get_or, drop}
 use Rattle.refusals.specs.Numbers.{card_numbers, Among}
+use Rattle.refusals.specs.Refusals.{by_number}
+use Rattle.refusals.specs.declared.Refusal.{Refusal}
+use Rattle.refusals.specs.declared.Refusal.TheVariants.{TooShort, WrongProduct}
 use Rattle.signs.specs.Signs.{query}
 use Rattle.layout.specs.Format.{polynomials}
 use Rattle.card.specs.Card.{refusal}
@@ -21,8 +24,7 @@ use Rattle.query.specs.Query.{query_of, patterns_of}
 use Rattle.query.specs.Opened.{summed}
 use Rattle.query.specs.Claim.{InLimits}
 use Rattle.query.specs.declared.Opened.{Opened}
-use Rattle.query_list.specs.declared.Numbered.{Numbered}
-use Rattle.query_list.specs.declared.Numbered.TheVariants.{Written, Refused, RefusedAt}
+use Rattle.query_list.specs.Listing.{Listed, written, refused, refused_at}
 
 abbrev pub AllBelow : ℕ → List ℕ → Type 0
 AllBelow b l = (k : ℕ) → k < length l → get_or l k 0 < b
@@ -32,26 +34,26 @@ pub record FirstPast (b : ℕ) (l : List ℕ) (p : ℕ) : Type 0 where
   pub past : b ≤ get_or l p 0
   pub first : (k : ℕ) → k < p → get_or l k 0 < b
 
-pub record ListGives (s : ℕ) (number : ℕ → ℤ) (l : List ℕ) (out : List ℤ) (o : Numbered) (out' : List ℤ) : Type 0 where
-  pub is_15 : (m : ℕ) → (o ≡ Refused m) ↔ ((m ≡ 15) × (length out < length l))
-  pub is_13 : (m p : ℕ) → (o ≡ RefusedAt m p) ↔ ((m ≡ 13) × (length l ≤ length out) × FirstPast (3 ^ s) l p)
-  pub is_written : (o ≡ Written) ↔ ((length l ≤ length out) × AllBelow (3 ^ s) l)
-  pub kept : o ≢ Written → out' ≡ out
-  pub shown : o ≡ Written → (k : ℕ) → k < length l → get_or out' k (pos 0) ≡ number (get_or l k 0)
-  pub rest : o ≡ Written → drop (length l) out' ≡ drop (length l) out
+pub record ListGives (s : ℕ) (number : ℕ → ℤ) (l : List ℕ) (out : List ℤ) (o : Listed) (out' : List ℤ) : Type 0 where
+  pub is_15 : (e : Refusal) → (o ≡ refused e) ↔ ((e ≡ TooShort) × (length out < length l))
+  pub is_13 : (e : Refusal) (p : ℕ) → (o ≡ refused_at e p) ↔ ((e ≡ WrongProduct) × (length l ≤ length out) × FirstPast (3 ^ s) l p)
+  pub is_written : (o ≡ written) ↔ ((length l ≤ length out) × AllBelow (3 ^ s) l)
+  pub kept : o ≢ written → out' ≡ out
+  pub shown : o ≡ written → (k : ℕ) → k < length l → get_or out' k (pos 0) ≡ number (get_or l k 0)
+  pub rest : o ≡ written → drop (length l) out' ≡ drop (length l) out
   pub as_long : length out' ≡ length out
 
-abbrev pub Kept : ℕ → List ℤ → Numbered → List ℤ → Type 0
-Kept m out o out' = (o ≡ Refused m) × (out' ≡ out)
+abbrev pub Kept : ℕ → List ℤ → Listed → List ℤ → Type 0
+Kept m out o out' = (o ≡ refused (by_number m)) × (out' ≡ out)
 
-pub record QueryAllGives (c l : List ℕ) (out : List ℤ) (o : Numbered) (out' : List ℤ) : Type 0 where
+pub record QueryAllGives (c l : List ℕ) (out : List ℤ) (o : Listed) (out' : List ℤ) : Type 0 where
   pub refused : (Sound c → ⊥) → Among card_numbers (refusal c) × Kept (refusal c) out o out'
   -- the sum over the points of the sign of the product's value
   pub by_values : Sound c → ListGives (polynomials c) (query_of c) l out o out'
   -- and of the product of the signs, from the points' patterns
   pub by_signs : Sound c → ListGives (polynomials c) (query (polynomials c) (patterns_of c)) l out o out'
 
-pub record AskAllGives (k : Opened) (l : List ℕ) (out : List ℤ) (o : Numbered) (out' : List ℤ) : Type 0 where
+pub record AskAllGives (k : Opened) (l : List ℕ) (out : List ℤ) (o : Listed) (out' : List ℤ) : Type 0 where
   pub own : Among card_numbers k.refusal → Kept k.refusal out o out'
   pub no_card's : k.refusal ≢ 0 → (Among card_numbers k.refusal → ⊥) → Kept 3 out o out'
   pub limits : k.refusal ≡ 0 → (InLimits k → ⊥) → Kept 3 out o out'

@@ -2,37 +2,40 @@
 // then the slice, then the products.
 #![tactic(auto)]
 
-ghost use Rattle.std.specs.Prelude.{◌≡◌, ◌^◌, ◌≤◌, ◌<◌, length};
+ghost use Rattle.std.specs.Prelude.{◌≡◌, ◌^◌, ◌≤◌, ◌<◌, None, MatchOption, length};
 ghost use Rattle.refusals.specs.Limits.{most_polynomials, most_points};
 ghost use Rattle.signs.specs.Lists.{Below};
 ghost use Rattle.query.specs.Opened.{summed, own_refusal};
 ghost use Rattle.query_list.specs.Listing.{first_bad, numbers_put, card_listing, opened_listing};
 
 use query::Opened;
-use refusals::{NONE, TOO_SHORT, WRONG_PRODUCT};
+use refusals::Refusal;
 use sign_counts::panel_number;
 use signs::bound;
 
-// What a call answers: that the numbers are written, or the number of the cause why none is; for a bad product also its position in the list, from 0.
-#[derive(Clone, Copy)]
-pub enum Numbered {
-    Written,
-    Refused(u16),
-    RefusedAt { number: u16, position: usize },
+// Why no number is written; for a bad product also its position in the list, from 0.
+#[derive(Clone, Copy, Debug, PartialEq, Eq)]
+pub struct ListRefusal {
+    pub refusal: Refusal,
+    pub position: Option<usize>,
 }
 
-// The position of the first number that is m or above; past the last where there is none.
-fn first_bad(l: &[u16], m: u16) -> usize
-    ensures { result ≡ first_bad m l.now }
-{
-    let mut k = 0;
-    while k < l.len() {
-        if m <= l[k] {
-            return k;
+impl From<Refusal> for ListRefusal {
+    ghost from_gives = { λ e r. r ≡ record { refusal = e; position = None } };
+
+    fn from(refusal: Refusal) -> ListRefusal {
+        ListRefusal {
+            refusal,
+            position: None,
         }
-        k += 1;
     }
-    k
+}
+
+// The position of the first number that is m or above.
+fn first_bad(l: &[u16], m: u16) -> Option<usize>
+    ensures { MatchOption result (length l.now ≤ first_bad m l.now) (λ p. (p ≡ first_bad m l.now) × (p < length l.now)) }
+{
+    l.iter().position(|a| m <= *a)
 }
 
 // The panel number of a product that the opened card has.
@@ -48,39 +51,33 @@ fn put_numbers(card: Opened, products: &[u16], out: &mut [i64])
     requires { (own_refusal card ≡ 0) × Below (3 ^ card.s) products.now × (length products.now ≤ length out.old) }
     ensures { out.new ≡ numbers_put (summed card) products.now out.old }
 {
-    let mut k = 0;
-    while k < products.len() {
-        out[k] = number(card, products[k]);
-        k += 1;
+    for (k, a) in products.iter().enumerate() {
+        out[k] = number(card, *a);
     }
 }
 
 // Writes to the front of out the panel numbers of the products on an opened card, in the list's order. Refused, in this order: by what refuses any query
 // on the card; by 15 where out is shorter than the list; by 13 with the position of the first product above 3^s − 1. A refusal leaves out as it was, and
 // past the numbers out keeps what lay there.
-pub fn ask_all(card: Opened, products: &[u16], out: &mut [i64]) -> Numbered
+pub fn ask_all(card: Opened, products: &[u16], out: &mut [i64]) -> Result<(), ListRefusal>
     ensures { (result, out.new) ≡ opened_listing card products.now out.old }
 {
-    let refusal = query::refused(card);
-    if refusal != NONE {
-        return Numbered::Refused(refusal);
-    }
+    query::check_opened(card)?;
     if out.len() < products.len() {
-        return Numbered::Refused(TOO_SHORT);
+        return Err(ListRefusal::from(Refusal::TooShort));
     }
-    let position = first_bad(products, bound(card.s));
-    if position < products.len() {
-        return Numbered::RefusedAt {
-            number: WRONG_PRODUCT,
-            position,
-        };
+    if let Some(position) = first_bad(products, bound(card.s)) {
+        return Err(ListRefusal {
+            refusal: Refusal::WrongProduct,
+            position: Some(position),
+        });
     }
     put_numbers(card, products, out);
-    Numbered::Written
+    Ok(())
 }
 
 // The same on a card: it is opened once, and then each product is asked.
-pub fn query_all(card: &[u8], products: &[u16], out: &mut [i64]) -> Numbered
+pub fn query_all(card: &[u8], products: &[u16], out: &mut [i64]) -> Result<(), ListRefusal>
     ensures { (result, out.new) ≡ card_listing card.now products.now out.old }
 {
     ask_all(query::open(card), products, out)

@@ -10,8 +10,8 @@ use Rattle.query.proofs.counts_by.Goals as goal
 fewer : (left odd n : ℕ) → left < 2 ^ n → (ones (bit_and left odd) ≤ ones left) × (ones left ≤ n)
 fewer left odd n h = (odd_fewer left odd n h, ones-le n left h)
 
-pub overflow_sub-plus : goal.overflow_sub-plus
-overflow_sub-plus c = omega (arith, fewer c.args.left c.args.odd c.args.n c.requires.1, c.requires.0)
+pub overflow_sub-result : goal.overflow_sub-result
+overflow_sub-result c = omega (arith, fewer c.args.left c.args.odd c.args.n c.requires.1, c.requires.0)
 
-pub overflow_sub-none : goal.overflow_sub-none
-overflow_sub-none c = omega (arith, fewer c.args.left c.args.odd c.args.n c.requires.1, c.requires.0)
+pub overflow_sub-result-2 : goal.overflow_sub-result-2
+overflow_sub-result-2 c = omega (arith, fewer c.args.left c.args.odd c.args.n c.requires.1, c.requires.0)

@@ -1,23 +1,23 @@
 -- `query::open_sound` meets its contract: j polynomials have their words.
 use mathlib.Core.Path.{◌≡◌}
-use Prim.Native.Nat.{◌-◌, ◌<◌}
+use Prim.Native.Nat.{◌<◌}
 use native.Mathlib.Omega.{arith}
 use Rattle.plane.specs.Contents.{contents_of}
 use Rattle.card_points.proofs.Distinct.{placed-many}
 use Rattle.query.proofs.Opening.{filled_none, filled_next, evaluated_is}
 use Rattle.query.proofs.open_sound.Goals as goal
-use Rattle.query.proofs.open_sound.Goals.{After-mark-marked}
+use Rattle.query.proofs.open_sound.Goals.{After-mark-signs}
 
 pub loop-j-init : goal.loop-j-init
 loop-j-init c = (omega arith, filled_none _ 1, filled_none _ 2)
 
 -- the polynomial is one of eight
-eight : (c : After-mark-marked) → c.loop-j.j < 8
+eight : (c : After-mark-signs) → c.loop-j.j < 8
 eight c = omega (arith, c.requires.0.s_most)
 
 pub loop-j-preserved : goal.loop-j-preserved
 loop-j-preserved c =
-    let m = c.mark-marked.ensures in (
+    let m = c.mark-signs.ensures in (
       omega arith,
       filled_next _ 1 c.loop-j.j _ _ c.loop-j.invariant.1 (eight c) m.0,
       filled_next _ 2 c.loop-j.j _ _ c.loop-j.invariant.2

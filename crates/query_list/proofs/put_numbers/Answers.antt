@@ -1,5 +1,4 @@
 -- `query_list::put_numbers` meets its contract: the numbers of the products passed are written, the rest as it was.
-use Prim.Native.Nat.{◌-◌}
 use native.Mathlib.Omega.{arith}
 use native.Mathlib.Numerals.{add-one}
 use borrow.Author.Rules.{sfits_of}
@@ -17,8 +16,6 @@ number-requires c =
 
 pub loop-k-preserved : goal.loop-k-preserved
 loop-k-preserved c =
-    let a = c.args in (
-      omega arith,
-      rw (to_z-of_z (sfits_of c.number.type_inv), c.number.ensures, c.loop-k.invariant.1, add-one c.loop-k.k)
-          (put_next (summed a.card) c.loop-k.k a.products.now a.out.now (omega arith) c.requires.2),
-    )
+    let a = c.args in
+    rw (to_z-of_z (sfits_of c.number.type_inv), c.number.ensures, c.loop-k.invariant, add-one c.loop-k.k)
+    (put_next (summed a.card) c.loop-k.k a.products.now a.out.now (omega arith) c.requires.2)
