@@ -1,15 +1,16 @@
 -- Whether a point of a sound card is the one before it, by their bytes.
 use mathlib.Core.Path.{◌≡◌, refl, sym, ap₂, subst, ◌∙◌}
 use mathlib.Core.Logic.{◌⊎◌, inl, inr, ⊎_elim}
-use mathlib.Core.Bool.{Bool, true, false, cond, ◌&&◌}
+use mathlib.Core.Bool.{Bool, true, false, not, ◌&&◌}
 use mathlib.Core.List.{List}
 use Prim.Native.Nat.{ℕ, suc, ◌+◌, ◌*◌, ◌-◌, ◌<◌, ◌≤◌}
 use native.Mathlib.Omega.{arith}
+use lib.Dec.{eqb}
 use lib.IntN.{pos}
 use Rattle.integers.specs.Same.{same}
 use Rattle.integers.proofs.Parts.{int, dif}
 use Rattle.integers.proofs.Same.{same_self, same_means}
-use Rattle.integers.proofs.Tests.{bool_cases}
+use Rattle.integers.proofs.Tests.{bool_cases, eq_cases}
 use Rattle.layout.specs.Format.{byte, points_at, point_of, two's}
 use Rattle.layout.proofs.Twos.{below_or, twos-low, twos_high}
 use Rattle.plane.specs.Contents.{same_point}
@@ -38,19 +39,18 @@ module _ (c : List ℕ) (i j : ℕ) where
   bytes_other f g n =
       ⊎_elim (λ t. absurd (n (sym (twos-one (byte c i) (byte c j) f g (same_means _ _ t))))) (λ t. t) (bool_cases (alike c i j))
 
+  alike_is : byte c i < 256 → byte c j < 256 → alike c i j ≡ eqb (byte c j) (byte c i)
+  alike_is f g = ⊎_elim (λ w. bytes_same w.0 ∙ sym w.1) (λ w. bytes_other f g w.0 ∙ sym w.1) (eq_cases (byte c j) (byte c i))
+
 -- ---- both tests of a point
 
 and_true : (s : Bool) → s && true ≡ s
 and_true true = refl
 and_true false = refl
 
-and_false : (s : Bool) → s && false ≡ false
-and_false true = refl
-and_false false = refl
-
--- 1 for a point that is not the one before it
-abbrev new : List ℕ → ℕ → ℕ
-new c k = cond (repeats c k) 0 1
+-- the test that a point is not the one before it
+abbrev new : List ℕ → ℕ → Bool
+new c k = not (repeats c k)
 
 -- a point after the first: that at place k, whose bytes are compared with those of the point before it
 module _ (c : List ℕ) (from k : ℕ) (e : from ≡ points_at c) (some : 0 < k) where
@@ -66,11 +66,8 @@ module _ (c : List ℕ) (from k : ℕ) (e : from ≡ points_at c) (some : 0 < k)
         (rw (line-point c line (k - 1), line-point c line (suc (k - 1)), and_true (same (point_of c (k - 1)) (point_of c (suc (k - 1)))))
         (ap₂ (alike c) (omega arith) (omega arith)))
 
-    pub line_new : byte c (from + k - 1) < 256 → byte c (from + k) < 256 → (byte c (from + k) ≡ byte c (from + k - 1) → ⊥) → 1 ≡ new c k
-    line_new f g n = rw (line-repeats, bytes_other c (from + k - 1) (from + k) f g n) refl
-
-    pub line-again : byte c (from + k) ≡ byte c (from + k - 1) → 0 ≡ new c k
-    line-again h = rw (line-repeats, bytes_same c (from + k - 1) (from + k) h) refl
+    pub line-new : byte c (from + k - 1) < 256 → byte c (from + k) < 256 → not (eqb (byte c (from + k)) (byte c (from + k - 1))) ≡ new c k
+    line-new f g = rw (line-repeats, alike_is c (from + k - 1) (from + k) f g) refl
 
   -- ---- in the plane
   module _ (plane : byte c 0 ≡ 2) where
@@ -84,16 +81,14 @@ module _ (c : List ℕ) (from k : ℕ) (e : from ≡ points_at c) (some : 0 < k)
         (rw (plane-point c plane (k - 1), plane-point c plane (suc (k - 1)))
         (ap₂ ◌&&◌ (ap₂ (alike c) (omega arith) (omega arith)) (ap₂ (alike c) (omega arith) (omega arith))))
 
-    pub plane_new_x : byte c (at - 2) < 256 → byte c at < 256 → (byte c at ≡ byte c (at - 2) → ⊥) → 1 ≡ new c k
+    pub plane_new_x : byte c (at - 2) < 256 → byte c at < 256 → (byte c at ≡ byte c (at - 2) → ⊥) → true ≡ new c k
     plane_new_x f g n = rw (plane-repeats, bytes_other c (at - 2) at f g n) refl
 
-    pub plane_new_y : byte c (at - 1) < 256 → byte c (at + 1) < 256 → (byte c (at + 1) ≡ byte c (at - 1) → ⊥) → 1 ≡ new c k
-    plane_new_y f g n = rw (plane-repeats, bytes_other c (at - 1) (at + 1) f g n, and_false) refl
-
-    pub plane-again : byte c at ≡ byte c (at - 2) → byte c (at + 1) ≡ byte c (at - 1) → 0 ≡ new c k
-    plane-again h i = rw (plane-repeats, bytes_same c (at - 2) at h, bytes_same c (at - 1) (at + 1) i) refl
+    pub plane_new_y : byte c at ≡ byte c (at - 2) → byte c (at - 1) < 256 → byte c (at + 1) < 256
+        → not (eqb (byte c (at + 1)) (byte c (at - 1))) ≡ new c k
+    plane_new_y h f g = rw (plane-repeats, bytes_same c (at - 2) at h, alike_is c (at - 1) (at + 1) f g) refl
 
 -- the first point is a new one
-pub first_new : (c : List ℕ) (k : ℕ) → k ≡ 0 → 1 ≡ new c k
+pub first_new : (c : List ℕ) (k : ℕ) → k ≡ 0 → true ≡ new c k
 unfolding repeats
 first_new c k e = rw e refl

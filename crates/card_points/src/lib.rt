@@ -4,7 +4,7 @@
 // The functions have a `requires`: they are for the crates above, whose calls show it.
 #![tactic(auto)]
 
-ghost use Rattle.std.specs.Prelude.{◌≡◌, cond, ◌<◌};
+ghost use Rattle.std.specs.Prelude.{◌≡◌, not, ◌<◌};
 ghost use Rattle.layout.specs.Format.{point_count, points_at};
 ghost use Rattle.card.specs.Sound.{Sound};
 ghost use Rattle.card_points.specs.Places.{repeats, Placed};
@@ -13,35 +13,26 @@ use plane::is_plane;
 use refusals::MOST_POINTS;
 
 // Places of points on a card, from 0: the first n of `at`, rising.
-#[derive(Clone, Copy)]
+#[derive(Clone, Copy, Debug)]
 pub struct Places {
     pub at: [u8; MOST_POINTS],
     pub n: usize,
 }
 
-// 1 where point k is not the point before it, else 0; the points begin at byte from.
-fn fresh(card: &[u8], from: usize, k: usize) -> usize
+// Whether point k is a new one, which is not the point before it; the points begin at byte from.
+fn fresh(card: &[u8], from: usize, k: usize) -> bool
     requires { Sound card.now × (from ≡ points_at card.now) × (k < point_count card.now) }
-    ensures { result ≡ cond (repeats card.now k) 0 1 }
+    ensures { result ≡ not (repeats card.now k) }
 {
     if k == 0 {
-        return 1;
+        return true;
     }
     if is_plane(card) {
         let i = from + 2 * k;
-        if card[i] != card[i - 2] {
-            return 1;
-        }
-        if card[i + 1] != card[i - 1] {
-            return 1;
-        }
-        return 0;
+        return card[i] != card[i - 2] || card[i + 1] != card[i - 1];
     }
     let i = from + k;
-    if card[i] != card[i - 1] {
-        return 1;
-    }
-    0
+    card[i] != card[i - 1]
 }
 
 // The places of the distinct points of a sound card of n points, which begin at byte from.
@@ -50,12 +41,12 @@ pub fn distinct_points(card: &[u8], from: usize, n: usize) -> Places
     ensures { Placed card.now result.at result.n }
 {
     let mut at = [0u8; MOST_POINTS];
-    let mut m = 0;
-    let mut k = 0;
-    while k < n {
-        at[m] = k as u8;
-        m += fresh(card, from, k);
-        k += 1;
+    let mut found = 0;
+    for k in 0..n {
+        if fresh(card, from, k) {
+            at[found] = k as u8;
+            found += 1;
+        }
     }
-    Places { at, n: m }
+    Places { at, n: found }
 }

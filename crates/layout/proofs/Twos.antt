@@ -1,11 +1,14 @@
 -- Two's complement: what a number below 2h stands for, its absolute value and its order.
-use mathlib.Core.Path.{◌≡◌, ap}
+use mathlib.Core.Path.{◌≡◌, sym, ap, ◌∙◌}
 use mathlib.Core.Logic.{◌⊎◌, inl, inr, ⊎_elim}
-use Prim.Native.Nat.{ℕ, ◌+◌, ◌*◌, ◌^◌, ◌≤◌, ◌<◌}
+use Prim.Native.Nat.{ℕ, suc, ◌+◌, ◌-◌, ◌*◌, ◌^◌, ◌≤◌, ◌<◌}
 use native.Mathlib.Omega.{arith}
 use borrow.Author.Tests.{ltb-true, ltb-false, lt-ltb, le-ltb}
 use lib.Dec.{ltb}
 use lib.IntN.{pos, nat_abs, ◌-ℤ◌}
+use mir.Syntax.{w8, w32}
+use mir.Val.{to_z}
+use mir.Facts.{to_z_pos, to_z-neg}
 use Rattle.integers.proofs.Parts.{int, parts, side, dif}
 use Rattle.integers.proofs.Tests.{bool_cases}
 use Rattle.layout.specs.Format.{two's}
@@ -36,3 +39,20 @@ abs_word w f e =
 
 pub abs_word-zero : (w : ℕ) → w ≡ 0 → nat_abs (two's (2 ^ 31) w) ≡ 0
 abs_word-zero w e = omega (arith, abs_low (2 ^ 31) w (omega arith))
+
+-- what the bits of a byte, and of four bytes, stand for as a signed number of as many bits
+pub signed_byte : (b : ℕ) → b < 256 → to_z w8 b ≡ two's 128 b
+signed_byte b l = ⊎_elim (λ h. to_z_pos w8 h ∙ sym (twos-low 128 b h)) high (below_or b 128)
+  where
+    high : 128 ≤ b → to_z w8 b ≡ two's 128 b
+    high h =
+        let e : 2 ^ 8 - suc (255 - b) ≡ b = omega arith in
+        rw e at (to_z-neg w8 (255 - b) (omega arith)) ∙ rw (twos_high 128 b h) (omega (int, dif (pos b) (pos 256)))
+
+pub signed_word : (w : ℕ) → w < 2 ^ 32 → to_z w32 w ≡ two's (2 ^ 31) w
+signed_word w l = ⊎_elim (λ h. to_z_pos w32 h ∙ sym (twos-low (2 ^ 31) w h)) high (below_or w (2 ^ 31))
+  where
+    high : 2 ^ 31 ≤ w → to_z w32 w ≡ two's (2 ^ 31) w
+    high h =
+        let e : 2 ^ 32 - suc (2 ^ 32 - 1 - w) ≡ w = omega arith in
+        rw e at (to_z-neg w32 (2 ^ 32 - 1 - w) (omega arith)) ∙ rw (twos_high (2 ^ 31) w h) (omega (int, dif (pos w) (pos (2 ^ 32))))

@@ -13,7 +13,6 @@ ghost use Rattle.plane.specs.Format.{is_plane, plane_size, x_power, y_power, ter
 ghost use Rattle.plane.specs.Body.{PlaneBody};
 ghost use Rattle.plane.specs.Values.{plane_value};
 
-use layout::wide;
 use refusals::MOST_DEGREE;
 
 // Byte 0 of a card of points in the plane.
@@ -35,7 +34,7 @@ pub fn size(card: &[u8], at: usize) -> usize
     requires { at < length card.now }
     ensures { result ≡ plane_size card.now at }
 {
-    1 + 6 * wide(card[at])
+    1 + 6 * usize::from(card[at])
 }
 
 // The power of X in term i of the polynomial that begins at byte at.
@@ -43,7 +42,7 @@ pub fn x_power(card: &[u8], at: usize, i: usize) -> usize
     requires { at + (2 + 6 * i) ≤ length card.now }
     ensures { (result ≡ x_power card.now at i) × (result < 256) }
 {
-    wide(card[at + 1 + 6 * i])
+    usize::from(card[at + 1 + 6 * i])
 }
 
 // The power of Y in it.
@@ -51,7 +50,7 @@ pub fn y_power(card: &[u8], at: usize, i: usize) -> usize
     requires { at + (3 + 6 * i) ≤ length card.now }
     ensures { (result ≡ y_power card.now at i) × (result < 256) }
 {
-    wide(card[at + 2 + 6 * i])
+    usize::from(card[at + 2 + 6 * i])
 }
 
 // The four bytes of its coefficient.
@@ -76,10 +75,8 @@ fn powers(x: i64) -> [i64; POWERS]
     ensures { result ≡ map (power x) (up_to (most_degree + 1)) }
 {
     let mut p = [1i64; POWERS];
-    let mut i = 1;
-    while i < POWERS {
+    for i in 1..POWERS {
         p[i] = x * p[i - 1];
-        i += 1;
     }
     p
 }
@@ -91,16 +88,13 @@ pub fn evaluate(card: &[u8], at: usize, x: i64, y: i64) -> i64
 {
     let xs = powers(x);
     let ys = powers(y);
-    let t = wide(card[at]);
-    let mut v: i64 = 0;
-    let mut i = 0;
-    while i < t {
+    let mut value = 0;
+    for i in 0..usize::from(card[at]) {
         let a = x_power(card, at, i);
         let b = y_power(card, at, i);
-        v = v + coefficient(card, at, i) * xs[a] * ys[b];
-        i += 1;
+        value += coefficient(card, at, i) * xs[a] * ys[b];
     }
-    v
+    value
 }
 
 // The digit of its sign in a pattern number: 0 for 0, 1 for +, 2 for −.

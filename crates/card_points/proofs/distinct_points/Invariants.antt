@@ -1,7 +1,7 @@
 -- `card_points::distinct_points` meets its contract: the first m places are those of the first k points.
 use mathlib.Core.Path.{◌≡◌}
 use mathlib.Core.List.{List}
-use Prim.Native.Nat.{ℕ, ◌-◌, ◌≤◌}
+use Prim.Native.Nat.{ℕ}
 use lib.ListN.{length, take}
 use Rattle.card_points.specs.Places.{places_to}
 use Rattle.card_points.proofs.distinct_points.Given as goal
@@ -13,7 +13,4 @@ pub record Found (c : List ℕ) (l : List ℕ) (m k : ℕ) : Type 0 where
   pub front : take m l ≡ places_to c k
 
 abbrev pub invariant-loop-k : goal.invariant-loop-k
-invariant-loop-k l = (l.k ≤ l.n) × Found l.card l.at l.m l.k
-
-abbrev pub decreases-loop-k : goal.decreases-loop-k
-decreases-loop-k l = l.n - l.k
+invariant-loop-k l = Found l.card l.at l.found l.k

@@ -5,4 +5,4 @@ use Rattle.layout.proofs.offset.Goals as goal
 
 pub returns : goal.returns
 unfolding offset
-returns c = omega arith
+returns c = omega (arith, c.from.ensures, c.from_be_bytes.ensures)

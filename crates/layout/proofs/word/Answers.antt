@@ -5,4 +5,4 @@ use Rattle.layout.proofs.word.Goals as goal
 
 pub returns : goal.returns
 unfolding word
-returns c = omega arith
+returns c = omega (arith, c.from_be_bytes.ensures)
