@@ -10,14 +10,15 @@ use mathlib.Core.List.{List, [], ◌∷◌, map}
 use Prim.Native.Nat.{ℕ}
 use native.Mathlib.Omega.{arith}
 use borrow.Author.Tests.{le-leb, lt-leb}
-use lib.ListN.{length, take, drop}
+use lib.ListN.{length, drop}
 use lib.Seq.{take_at, drop_at}
 use contract.Lifetimes.{Lfts}
 use denote.Ref.{Bor, MutBor}
 use Rattle.lines.specs.Text.{text_of}
 use Rattle.printout.specs.declared.Progress.{Progress}
 use Rattle.printout.specs.declared.Printed.{Printed}
-use Rattle.printout.specs.declared.Written.{Written}
+use Rattle.std.specs.Prelude.{Result}
+use Rattle.refusals.specs.declared.Refusal.{Refusal}
 use Rattle.printout.specs.Printout.{lines_of, printout_of}
 use Rattle.printout.specs.Written.{placed, Placed}
 use Rattle.printout.specs.Progress.{over, ProgressState, progress_of, next_of, Shows, Prints}
@@ -67,8 +68,8 @@ placed_is t out = record {
 }
 
 -- the text of the card's lines at the front of a slice that has room for it, and 15 where it has not
-pub code_printout : (κs : Lfts 2) (card : Bor (List ℕ)) (out out' : MutBor (List ℕ)) (o : Written)
+pub code_printout : (κs : Lfts 2) (card : Bor (List ℕ)) (out out' : MutBor (List ℕ)) (o : Result ℕ Refusal)
     → printout.Learnt κs (card, (out, tt)) o (card, (out', tt)) → Placed (printout_of card.now) out.now o out'.now
 code_printout κs card out out' o e =
-    subst (λ (p : Written × List ℕ). Placed (printout_of card.now) out.now p.0 p.1) (sym e)
+    subst (λ (p : Result ℕ Refusal × List ℕ). Placed (printout_of card.now) out.now p.0 p.1) (sym e)
     (placed_is (printout_of card.now) out.now)

@@ -7,17 +7,18 @@ use borrow.Author.Tests.{le-leb, lt-leb}
 use lib.ListN.{length}
 use lib.Seq.{paste, take-length}
 use Rattle.refusals.specs.Numbers.{too_short}
-use Rattle.printout.specs.declared.Written as code
-use Rattle.printout.specs.declared.Written.TheVariants as written
+use Rattle.std.specs.Prelude.{Result, Ok}
+use Rattle.refusals.specs.Refusals.{refusing}
+use Rattle.refusals.specs.declared.Refusal.{Refusal}
 use Rattle.printout.specs.Written.{placed}
 
 module _ (t out : List ℕ) (n : ℕ) (long : n ≡ length t) where
-  pub placed-short : length out < n → ◌≡◌ {A = code.Written × List ℕ} (written.Refused too_short, out) (placed t out)
+  pub placed-short : length out < n → ◌≡◌ {A = Result ℕ Refusal × List ℕ} (refusing too_short, out) (placed t out)
   unfolding placed
   placed-short h = rw (lt-leb (length t) (length out) (omega arith)) refl
 
   pub placed-fits : (out' u : List ℕ) → u ≡ t → out' ≡ paste out 0 u (length u) → n ≤ length out
-      → ◌≡◌ {A = code.Written × List ℕ} (written.Bytes n, out') (placed t out)
+      → ◌≡◌ {A = Result ℕ Refusal × List ℕ} (Ok n, out') (placed t out)
   unfolding placed
   placed-fits out' u e f h =
       let z : 0 + length t ≡ length t = omega arith in

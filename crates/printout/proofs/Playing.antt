@@ -11,14 +11,14 @@ use lib.IntN.{ℤ, pos, negsuc, nat_abs}
 use lib.ListN.{length, take, get_or}
 use lib.Seq.{length-take-le}
 use Rattle.refusals.specs.Limits.{most_points}
-use Rattle.layout.specs.Format.{polynomials}
 use Rattle.signs.proofs.Orders.{both_right}
 use Rattle.signs.specs.declared.Product.{Product}
 use Rattle.sign_counts.specs.Counts.{panel_number}
 use Rattle.sign_counts.specs.declared.SignCounts.{SignCounts}
 use Rattle.query.specs.declared.Opened.{Opened}
-use Rattle.query.specs.declared.Queried.{Queried}
-use Rattle.query.specs.declared.Queried.TheVariants as of-query
+use Rattle.std.specs.Prelude.{Result, Ok, Err}
+use Rattle.refusals.specs.Refusals.{number_of}
+use Rattle.refusals.specs.declared.Refusal.{Refusal}
 use Rattle.query.specs.Opened.{opened_answer}
 use Rattle.rounds.specs.Rows.{Row, rows_with, row_if}
 use Rattle.rounds.specs.RoundEnd.{round_rows}
@@ -35,7 +35,7 @@ use Rattle.lines.proofs.Putting.{put_more, put_same}
 use Rattle.printout.specs.Printout.{row_lines, together}
 use Rattle.printout.specs.Progress.{over, ProgressState, gives, on_step, on_answer, next_at, next_of, Prints}
 use Rattle.printout.specs.Steps.{asking, Settled, Plays}
-use Rattle.printout.proofs.Printing.{prints, rows_print}
+use Rattle.printout.proofs.Printing.{rows_print}
 
 -- ---- lines one after the other
 
@@ -176,12 +176,12 @@ pub plays_same : (x y : ProgressState × List ℕ) (out : List ℕ) (at : ℕ) (
 plays_same x y out at out' b t e h p = subst (λ (u : ProgressState × List ℕ). Plays u out at out' b t e) h p
 
 -- what the card answers, and the run after it
-module _ (o : Opened) (α : ℕ) (q : Queried) (same : q ≡ opened_answer o α) (r : State) where
-  pub next_counts : (t : SignCounts) (y : State × Step) → q ≡ of-query.Counts t → y ≡ answer_of round_rows r (panel_number t)
+module _ (o : Opened) (α : ℕ) (q : Result SignCounts Refusal) (same : q ≡ opened_answer o α) (r : State) where
+  pub next_counts : (t : SignCounts) (y : State × Step) → q ≡ Ok t → y ≡ answer_of round_rows r (panel_number t)
       → on_step o α (panel_number t) y ≡ next_of (asking o r α)
   unfolding next_of next_at on_answer
   next_counts t y e f = ap (on_step o α (panel_number t)) f ∙ ap (on_answer o r α) (sym e ∙ same)
 
-  pub next_refused : (k : ℕ) → q ≡ of-query.Refused k → gives o r over (refusal_line k) ≡ next_of (asking o r α)
+  pub next_refused : (e : Refusal) → q ≡ Err e → gives o r over (refusal_line (number_of e)) ≡ next_of (asking o r α)
   unfolding next_of next_at on_answer
-  next_refused k e = ap (on_answer o r α) (sym e ∙ same)
+  next_refused d e = ap (on_answer o r α) (sym e ∙ same)

@@ -22,10 +22,11 @@ use Rattle.refusals.specs.Numbers.{unless}
 use Rattle.card.specs.Sound.{Sound}
 use Rattle.card.proofs.Sound.{sound, unrefused}
 use Rattle.query.specs.declared.Opened.{Opened}
-use Rattle.query.specs.declared.Queried.TheVariants as of-query
+use Rattle.std.specs.Prelude.{Ok}
+use Rattle.refusals.specs.Refusals.{number_of, by_number, refusing}
 use Rattle.query.specs.Opened.{opened, opened_answer}
 use Rattle.query.specs.Query.{query_of, counts_of, patterns_of}
-use Rattle.query.proofs.Opening.{answer-opened, opened-sound}
+use Rattle.query.proofs.Opening.{refusal_number, answer-opened, opened-sound}
 use Rattle.query.proofs.Answers.{query-sound, query-refused}
 use Rattle.rounds.specs.Rows.{Row, patterns, Oracle, realized, IsRealized, Fits}
 use Rattle.rounds.specs.Rounds.{round_of, Determined}
@@ -166,7 +167,7 @@ module _ (c : List ℕ) (S : Sound c) where
     few-q : length (questions s E) ≤ most_questions
     few-r : length (realized s E) ≤ most_points
 
-  card-answers : (α : ℕ) → α < 3 ^ s → opened_answer (opened c) α ≡ of-query.Counts (counts_of c α)
+  card-answers : (α : ℕ) → α < 3 ^ s → opened_answer (opened c) α ≡ Ok (counts_of c α)
   card-answers α b = answer-opened c α ∙ query-sound c α S b
 
   -- k more answers, from a record that has asked α last
@@ -306,7 +307,9 @@ pub refused-prints : (c : List ℕ) (r : State) (k : ℕ) → refusal c ≡ suc 
 refused-prints c r k e =
     prints_more (at (opened c) r (question 0)) (at (opened c) r over) (refusal_line (suc k)) []
     (unfold next_of next_at on_answer in
-    ap (on_answer (opened c) r 0) (answer-opened c 0 ∙ query-refused c 0 (λ z. absurd (omega (arith, e, z))) ∙ ap of-query.Refused e))
+    ap (on_answer (opened c) r 0) (answer-opened c 0 ∙ query-refused c 0 (λ z. absurd (omega (arith, e, z))) ∙ ap refusing e)
+    ∙ ap (λ (m : ℕ). gives (opened c) r over (refusal_line m))
+    (ap (λ (m : ℕ). number_of (by_number m)) (sym e) ∙ refusal_number c (λ z. absurd (omega (arith, e, z))) ∙ e))
     (unfold Prints in refl)
 
 -- THE THEOREM

@@ -17,8 +17,9 @@ use Rattle.card.specs.Sound.{Sound}
 use Rattle.card.proofs.Sound.{sound, unrefused}
 use Rattle.layout.specs.Format.{polynomials}
 use Rattle.query.specs.declared.Opened.{Opened}
-use Rattle.query.specs.declared.Queried.{Queried}
-use Rattle.query.specs.declared.Queried.TheVariants as of-query
+use Rattle.std.specs.Prelude.{Result, Ok, Err}
+use Rattle.refusals.specs.declared.Refusal.{Refusal}
+use Rattle.sign_counts.specs.declared.SignCounts.{SignCounts}
 use Rattle.query.specs.Opened.{opened, opened_answer}
 use Rattle.query.specs.Query.{patterns_of}
 use Rattle.query.proofs.Opening.{opened-sound}
@@ -68,10 +69,10 @@ step-asked o α z (r, ask β) = unfold question_line in (omega arith, omega arit
 step-asked o α z (r, done) = unfold question_line in (omega arith, omega arith)
 step-asked o α z (r, refused k) = unfold refusal_line in (omega arith, omega arith)
 
-answer-asked : (o : Opened) (r : State) (α : ℕ) (q : Queried) → Asked (on_answer o r α q).1
+answer-asked : (o : Opened) (r : State) (α : ℕ) (q : Result SignCounts Refusal) → Asked (on_answer o r α q).1
 unfolding on_answer
-answer-asked o r α (of-query.Counts t) = step-asked o α _ (answer_of round_rows r _)
-answer-asked o r α (of-query.Refused k) = unfold refusal_line in (omega arith, omega arith)
+answer-asked o r α (Ok t) = step-asked o α _ (answer_of round_rows r _)
+answer-asked o r α (Err e) = unfold refusal_line in (omega arith, omega arith)
 
 module _ (c : List ℕ) (o : Opened) (r : State) (α : ℕ) (text : List ℕ) (k : ℕ) (L : Left c (asking o r α) text k) where
   abbrev t : ProgressState

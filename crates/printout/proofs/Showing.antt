@@ -11,8 +11,9 @@ use Rattle.signs.specs.declared.Product.{Product}
 use Rattle.query.specs.declared.Opened.{Opened}
 use Rattle.sign_counts.specs.Counts.{panel_number}
 use Rattle.sign_counts.specs.declared.SignCounts.{SignCounts}
-use Rattle.query.specs.declared.Queried.{Queried}
-use Rattle.query.specs.declared.Queried.TheVariants as of-query
+use Rattle.std.specs.Prelude.{Result, Ok, Err}
+use Rattle.refusals.specs.Refusals.{number_of}
+use Rattle.refusals.specs.declared.Refusal.{Refusal}
 use Rattle.query.specs.Opened.{opened, opened_answer}
 use Rattle.rounds.specs.RoundEnd.{round_rows}
 use Rattle.run_record.specs.declared.Run.{Run}
@@ -96,18 +97,18 @@ module _ (o : Printed) (card : Opened) (run run' : Run) (α : ℕ) (z : ℤ) (st
       heard h (subst (λ (x : code_step.Step). Shows o (on_step card α z (state_of run', step_of x))) (sym e)
       (shown o card run' stages.Over (refusal_line k) m))
 
-module _ (o : Printed) (card : Opened) (run : Run) (α : ℕ) (x y : Queried) (same : x ≡ y) where
-  pub numbered : (t : SignCounts) → x ≡ of-query.Counts t
+module _ (o : Printed) (card : Opened) (run : Run) (α : ℕ) (x y : Result SignCounts Refusal) (same : x ≡ y) where
+  pub numbered : (t : SignCounts) → x ≡ Ok t
       → Shows o (on_step card α (panel_number t) (answer_of round_rows (state_of run) (panel_number t)))
       → Shows o (on_answer card (state_of run) α y)
   unfolding on_answer
-  numbered t e s = subst (λ (v : Queried). Shows o (on_answer card (state_of run) α v)) (sym e ∙ same) s
+  numbered t e s = subst (λ (v : Result SignCounts Refusal). Shows o (on_answer card (state_of run) α v)) (sym e ∙ same) s
 
-  pub not_shown : (k : ℕ) → x ≡ of-query.Refused k → Made o card run stages.Over (refusal_line k)
+  pub not_shown : (d : Refusal) → x ≡ Err d → Made o card run stages.Over (refusal_line (number_of d))
       → Shows o (on_answer card (state_of run) α y)
   unfolding on_answer
-  not_shown k e m =
-      subst (λ (v : Queried). Shows o (on_answer card (state_of run) α v)) (sym e ∙ same) (shown o card run stages.Over (refusal_line k) m)
+  not_shown d e m =
+      subst (λ (v : Result SignCounts Refusal). Shows o (on_answer card (state_of run) α v)) (sym e ∙ same) (shown o card run stages.Over (refusal_line (number_of d)) m)
 
 -- ---- a row
 

@@ -9,14 +9,15 @@
 --                    the end; R where the card or the run refuses, and then nothing more
 --   Shows o t     == the code's line o and what it leaves are the line and the rest t, and it has room
 --   Prints t ls   == the lines from t on, one after the other, are ls, and then it is over
-use Rattle.std.specs.Prelude.{◌≡◌, cond, List, [], ◌∷◌, ℕ, suc, ◌≤◌, eqb, ltb, ℤ}
+use Rattle.std.specs.Prelude.{◌≡◌, cond, List, [], ◌∷◌, ℕ, suc, ◌≤◌, eqb, ltb, ℤ, Result, Ok, Err}
 use Rattle.refusals.specs.Numbers.{past_last}
+use Rattle.refusals.specs.Refusals.{number_of}
+use Rattle.refusals.specs.declared.Refusal.{Refusal}
 use Rattle.refusals.specs.Limits.{most_points}
 use Rattle.sign_counts.specs.Counts.{panel_number}
 use Rattle.query.specs.Opened.{opened, opened_answer}
 use Rattle.query.specs.declared.Opened.{Opened}
-use Rattle.query.specs.declared.Queried.{Queried}
-use Rattle.query.specs.declared.Queried.TheVariants as of-query
+use Rattle.sign_counts.specs.declared.SignCounts.{SignCounts}
 use Rattle.rounds.specs.RoundEnd.{round_rows}
 use Rattle.runs.specs.Run.{State, Step, ask, done, refused, Fetch, row, no_row, answer_of, fetch_of}
 use Rattle.run_record.specs.Record.{state_of, started_of}
@@ -58,9 +59,9 @@ on_step o α z (r, ask β) = gives o r (question β) (question_line α z)
 on_step o α z (r, done) = gives o r (row_at 0) (question_line α z)
 on_step o α z (r, refused k) = gives o r over (refusal_line k)
 
-unfoldable pub on_answer : Opened → State → ℕ → Queried → ProgressState × List ℕ
-on_answer o r α (of-query.Counts t) = on_step o α (panel_number t) (answer_of round_rows r (panel_number t))
-on_answer o r α (of-query.Refused k) = gives o r over (refusal_line k)
+unfoldable pub on_answer : Opened → State → ℕ → Result SignCounts Refusal → ProgressState × List ℕ
+on_answer o r α (Ok t) = on_step o α (panel_number t) (answer_of round_rows r (panel_number t))
+on_answer o r α (Err e) = gives o r over (refusal_line (number_of e))
 
 unfoldable pub after_row : ℕ → Stage
 after_row p = cond (ltb p most_points) (row_at (suc p)) over

@@ -9,6 +9,6 @@ pub returns-then-p-lt-MOST_ROWS : goal.returns-then-p-lt-MOST_ROWS
 unfolding after_row
 returns-then-p-lt-MOST_ROWS c = rw (lt-ltb _ _ c.if-p-lt-MOST_ROWS.true, add-one c.args.p) refl
 
-pub returns : goal.returns
+pub returns-else-p-lt-MOST_ROWS : goal.returns-else-p-lt-MOST_ROWS
 unfolding after_row
-returns c = rw (le-ltb _ _ c.if-p-lt-MOST_ROWS.false) refl
+returns-else-p-lt-MOST_ROWS c = rw (le-ltb _ _ c.if-p-lt-MOST_ROWS.false) refl

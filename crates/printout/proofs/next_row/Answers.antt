@@ -1,14 +1,15 @@
 -- `printout::next_row` meets its contract.
+use mathlib.Core.Path.{sym, ◌∙◌}
 use borrow.Author.Tests.{ne_eqb}
 use Rattle.printout.proofs.Showing.{made, row-shown, last_shown, row-refused}
 use Rattle.printout.proofs.next_row.Goals as goal
 
-pub returns-then-k-eq-PAST_LAST : goal.returns-then-k-eq-PAST_LAST
-returns-then-k-eq-PAST_LAST c =
+pub returns-then-k-number : goal.returns-then-k-number
+returns-then-k-number c =
     let l = rw c.asked.ensures at c.end_line.ensures in
     last_shown _ c.args.card c.args.run c.args.p _ _ c.fetch_row.ensures c.in-Refused.k c.in-Refused.is
-    c.if-k-eq-PAST_LAST.true
-    (made _ _ _ _ _ _ c.with_line-then-k-eq-PAST_LAST.ensures l)
+    (c.if-k-number.true ∙ c.number.ensures)
+    (made _ _ _ _ _ _ c.with_line-then-k-number.ensures l)
 
 pub returns-in-Row : goal.returns-in-Row
 returns-in-Row c =
@@ -16,8 +17,8 @@ returns-in-Row c =
     c.after_row.ensures
     (made _ _ _ _ _ _ c.with_line.ensures c.row_line.ensures)
 
-pub returns-else-k-eq-PAST_LAST : goal.returns-else-k-eq-PAST_LAST
-returns-else-k-eq-PAST_LAST c =
+pub returns-else-k-number : goal.returns-else-k-number
+returns-else-k-number c =
     row-refused _ c.args.card c.args.run c.args.p _ _ c.fetch_row.ensures c.in-Refused.k c.in-Refused.is
-    (ne_eqb _ _ c.if-k-eq-PAST_LAST.false)
+    (ne_eqb _ _ (λ e. c.if-k-number.false (e ∙ sym c.number.ensures)))
     (made _ _ _ _ _ _ c.with_line-in-Refused.ensures c.refusal_line.ensures)

@@ -1,6 +1,6 @@
 -- `printout::put_lines` meets its contract: after k questions their lines stand at the front, and the rest of the printout is left.
 use mathlib.Core.Path.{◌≡◌, refl, sym, ap, ◌∙◌}
-use Prim.Native.Nat.{◌*◌, ◌-◌, ◌≤◌}
+use Prim.Native.Nat.{◌*◌, ◌≤◌}
 use native.Mathlib.Omega.{arith}
 use lib.ListN.{length, take}
 use lib.Seq.{length-take-le}
@@ -14,16 +14,8 @@ use Rattle.printout.proofs.put_lines.Goals.{At-loop-k}
 
 pub loop-k-init : goal.loop-k-init
 loop-k-init c =
-    let o = c.open-opened in (
-      omega arith,
-      c.requires,
-      refl,
-      refl,
-      refl,
-      refl,
-      left_begin c.args.card.now o.result _ o.ensures
-          (λ a b. ap (λ (x : State × Step). x.0) (c.first_head-head.ensures _ _ _ _ a b).by_rules),
-    )
+    let o = c.open-opened in
+    (omega arith, c.requires, left_begin c.args.card.now o.result _ o.ensures (λ a b. ap (λ (x : State × Step). x.0) c.start.ensures.by_rules))
 
 -- what is written is short
 module _ (c : At-loop-k) where
@@ -31,16 +23,12 @@ module _ (c : At-loop-k) where
   short =
       omega (
         arith,
-        left-short _ _ _ _ c.loop-k.invariant.6,
+        left-short _ _ _ _ c.loop-k.invariant.2,
         length-take-le c.loop-k.at c.loop-k.out (omega (arith, c.loop-k.invariant.0, c.loop-k.invariant.1)),
       )
 
 pub put_question-played-requires : goal.put_question-played-requires
-put_question-played-requires c =
-    let i = c.loop-k.invariant in record {
-      patterns_len = (i.2, i.3, i.4, i.5);
-      most_points_in_bounds = omega (arith, short (goal.at.put_question-played-requires c).At-loop-k, i.1);
-    }
+put_question-played-requires c = omega (arith, short (goal.at.put_question-played-requires c).At-loop-k, c.loop-k.invariant.1)
 
 pub returns-then-played : goal.returns-then-played
 unfolding Plays
@@ -48,7 +36,7 @@ returns-then-played c =
     let card = c.args.card.now in
     let g = rw c.if-played.true at c.put_question-played.ensures in
     let e : take c.put_question-played.result.at c.put_question-played.new.out ≡ printout_of card =
-    g.put.text ∙ left-all card _ _ _ _ _ c.loop-k.invariant.6 g.rest g.prints in
+    g.put.text ∙ left-all card _ _ _ _ _ c.loop-k.invariant.2 g.rest g.prints in
     let h : c.put_question-played.result.at ≤ most_text = omega (arith, g.fits, short (goal.at.returns-then-played c).At-loop-k) in (
       e,
       sym (length-take-le c.put_question-played.result.at c.put_question-played.new.out
@@ -62,13 +50,9 @@ loop-k-preserved c =
     let g = rw c.if-played.false at c.put_question-played.ensures in (
       omega (arith, g.line.fits, short (goal.at.loop-k-preserved c).At-loop-k),
       omega (arith, c.put_question-played.auto, c.loop-k.invariant.1),
-      omega (arith, c.put_question-played.auto, c.loop-k.invariant.2),
-      omega (arith, c.put_question-played.auto, c.loop-k.invariant.3),
-      omega (arith, c.put_question-played.auto, c.loop-k.invariant.4),
-      omega (arith, c.put_question-played.auto, c.loop-k.invariant.5),
-      left_goes _ _ _ _ _ _ c.loop-k.invariant.6 c.loop-k.out _ c.loop-k.at _ _ refl g,
+      left_goes _ _ _ _ _ _ c.loop-k.invariant.2 c.loop-k.out _ c.loop-k.at _ _ refl g,
     )
 
 pub returns : goal.returns
 returns c =
-    absurd (omega (arith, left-few _ _ _ _ _ _ c.loop-k.invariant.6, c.loop-k-test.false))
+    absurd (omega (arith, left-few _ _ _ _ _ _ c.loop-k.invariant.2, c.loop-k-test.false))
