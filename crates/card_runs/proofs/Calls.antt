@@ -29,8 +29,9 @@ use Rattle.card.proofs.Sound.{unrefused}
 use Rattle.query.specs.Query.{query_of}
 use Rattle.query.specs.Claim.{Shown, number, shown_of, QueryGives}
 use Rattle.query.specs.Claim as claim
-use Rattle.query.specs.declared.Queried.{Queried}
-use Rattle.query.specs.declared.Queried.TheVariants as of-query
+use Rattle.std.specs.Prelude.{Result, Ok, Err}
+use Rattle.refusals.specs.Refusals.{number_of}
+use Rattle.refusals.specs.declared.Refusal.{Refusal}
 use Rattle.query.specs.declared.Opened.{Opened}
 use Rattle.query.proofs.Calls.{demand2_query, demand2_opened}
 use Rattle.query.proofs.Opening.{opened-sound}
@@ -46,7 +47,7 @@ use Rattle.card_runs.proofs.Runs.{ends-done, played_done}
 
 -- ---- the calls on a card
 
-pub record InOneCall (c : List ℕ) (α : ℕ) (o : Queried) : Type 2 where
+pub record InOneCall (c : List ℕ) (α : ℕ) (o : Result SignCounts Refusal) : Type 2 where
   pub lifetimes : Lfts 1
   pub card : Bor (List ℕ)
   pub product : Product
@@ -54,7 +55,7 @@ pub record InOneCall (c : List ℕ) (α : ℕ) (o : Queried) : Type 2 where
   pub lent : card.now ≡ c
   pub of : product.0 ≡ α
 
-pub record OnOpened (c : List ℕ) (α : ℕ) (o : Queried) : Type 2 where
+pub record OnOpened (c : List ℕ) (α : ℕ) (o : Result SignCounts Refusal) : Type 2 where
   pub lifetimes : Lfts 1
   pub card : Bor (List ℕ)
   pub opened : Opened
@@ -64,16 +65,16 @@ pub record OnOpened (c : List ℕ) (α : ℕ) (o : Queried) : Type 2 where
   pub lent : card.now ≡ c
   pub of : product.0 ≡ α
 
-pub data Tells (c : List ℕ) (α : ℕ) (o : Queried) : Type 2 where
+pub data Tells (c : List ℕ) (α : ℕ) (o : Result SignCounts Refusal) : Type 2 where
   in_one_call : InOneCall c α o → Tells c α o
   on-opened : OnOpened c α o → Tells c α o
 
-pub data Shows : Queried → Shown → Type 2 where
-  counts : {t : SignCounts} {z : ℤ} → panel-number.Learnt tt (t, tt) z (t, tt) → Shows (of-query.Counts t) (claim.number z)
-  refusal : {m : ℕ} → Shows (of-query.Refused m) (claim.refused m)
+pub data Shows : Result SignCounts Refusal → Shown → Type 2 where
+  counts : {t : SignCounts} {z : ℤ} → panel-number.Learnt tt (t, tt) z (t, tt) → Shows (Ok t) (claim.number z)
+  refusal : {e : Refusal} → Shows (Err e) (claim.refused (number_of e))
 
 pub record Asks (c : List ℕ) (α : ℕ) (y : Shown) : Type 2 where
-  pub told : Queried
+  pub told : Result SignCounts Refusal
   pub tells : Tells c α told
   pub shows : Shows told y
 
@@ -82,13 +83,13 @@ Plays c k d x = Played Run Started Took (Asks c) (polynomials c) k d x
 
 -- ---- what they show
 
-tells_gives : (c : List ℕ) (α : ℕ) (o : Queried) → Tells c α o → QueryGives c α o
+tells_gives : (c : List ℕ) (α : ℕ) (o : Result SignCounts Refusal) → Tells c α o → QueryGives c α o
 tells_gives c α o (in_one_call u) =
     rw (← u.lent, ← u.of) (demand2_query u.lifetimes u.card u.product o u.kept)
 tells_gives c α o (on-opened u) =
     rw (← u.lent, ← u.of) (demand2_opened u.lifetimes u.card u.product o u.opened u.kept_open u.kept-ask)
 
-shows_is : {o : Queried} {y : Shown} → Shows o y → y ≡ shown_of o
+shows_is : {o : Result SignCounts Refusal} {y : Shown} → Shows o y → y ≡ shown_of o
 shows_is (counts e) = ap number e
 shows_is refusal = refl
 

@@ -23,7 +23,9 @@ use Rattle.card.specs.Sound.{Sound}
 use Rattle.card.proofs.Sound.{unrefused}
 use Rattle.query.specs.Claim.{number}
 use Rattle.query.specs.declared.Opened.{Opened}
-use Rattle.query.specs.declared.Queried.{Queried}
+use Rattle.std.specs.Prelude.{Result}
+use Rattle.refusals.specs.declared.Refusal.{Refusal}
+use Rattle.sign_counts.specs.declared.SignCounts.{SignCounts}
 use Rattle.query.proofs.Opening.{opened-sound}
 use Rattle.query.proofs.Calls.{demand2_query, demand2_opened, counts-query, counts-opened}
 use Rattle.query.proofs.query.Reads as query
@@ -44,7 +46,7 @@ use Rattle.point_sets.proofs.Runs.{played_questions}
 
 -- ---- queries
 
-module _ (κs : Lfts 1) (card : Bor (List ℕ)) (a : Product) (o : Queried) where
+module _ (κs : Lfts 1) (card : Bor (List ℕ)) (a : Product) (o : Result SignCounts Refusal) where
   -- WISH 7 of a query in one call
   pub once_in_query : query.Learnt κs (card, (a, tt)) o (card, (a, tt)) → CountsOnce card.now a.0 o
   once_in_query e = counts-once card.now a.0 o (demand2_query κs card a o e) (counts-query κs card a o e)

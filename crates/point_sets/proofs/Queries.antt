@@ -15,8 +15,9 @@ use Rattle.plane.specs.Contents.{standing_of, contents_of}
 use Rattle.plane.proofs.Contents.{points-once}
 use Rattle.card.specs.Claim.{CardGives}
 use Rattle.query.specs.Claim.{number, refused, shown_of, QueryGives, QueryTells}
-use Rattle.query.specs.declared.Queried.{Queried}
-use Rattle.query.specs.declared.Queried.TheVariants as of-query
+use Rattle.std.specs.Prelude.{Result}
+use Rattle.refusals.specs.declared.Refusal.{Refusal}
+use Rattle.sign_counts.specs.declared.SignCounts.{SignCounts}
 use Rattle.point_sets.specs.Claim.{Named, on, Counted, CountsOnce}
 
 -- ---- the card's own list against any other
@@ -35,7 +36,7 @@ module _ (c : List ℕ) (α : ℕ) (l : List Point) (N : Named c l) where
 itself : (c : List ℕ) → NoneTwice (standing_of c).points → Named c (standing_of c).points
 itself c h = record { none_twice = h; alike = λ x. (λ i. i, λ i. i) }
 
-module _ (c : List ℕ) (α : ℕ) (o : Queried) (G : QueryGives c α o) (T : QueryTells c α o) where
+module _ (c : List ℕ) (α : ℕ) (o : Result SignCounts Refusal) (G : QueryGives c α o) (T : QueryTells c α o) where
   counted : (l : List Point) → Named c l → Counted c α o l
   counted l N = record {
     shown = rw (query-same c α l N) at G.by_values;

@@ -11,7 +11,7 @@
 --                       shows that number of product 0. Where the points of c all differ, it holds of the points as they stand
 --   step_at ps k      == the step after k answers of a run that asks the products ps one after the other, and is then done
 --   Unchanged c      == the patterns of the rows, and the questions, of the card c are those with each point counted as often as it stands
-use Rattle.std.specs.Prelude.{◌≡◌, List, [], ◌∷◌, ℕ, zero, suc, ◌^◌, ◌<◌, pos, length}
+use Rattle.std.specs.Prelude.{◌≡◌, List, [], ◌∷◌, ℕ, zero, suc, ◌^◌, ◌<◌, pos, Result, Ok, length}
 use Rattle.sign_counts.specs.Counts.{in_all}
 use Rattle.sign_counts.specs.declared.SignCounts.{SignCounts}
 use Rattle.contents.specs.Contents.{Contents, query_in, patterns_in}
@@ -22,8 +22,8 @@ use Rattle.plane.specs.Format.{Point}
 use Rattle.plane.specs.Contents.{standing_of, contents_of}
 use Rattle.card.specs.Claim.{CardGives}
 use Rattle.query.specs.Claim.{number, refused, shown_of}
-use Rattle.query.specs.declared.Queried.{Queried}
-use Rattle.query.specs.declared.Queried.TheVariants as of-query
+use Rattle.refusals.specs.Refusals.{refusing}
+use Rattle.refusals.specs.declared.Refusal.{Refusal}
 use Rattle.rounds.specs.Rows.{patterns}
 use Rattle.runs.specs.Run.{Step, ask, done}
 use Rattle.contents_runs.specs.Runs.{rows_in}
@@ -37,13 +37,13 @@ Named c l = EachOnce (standing_of c).points l
 abbrev pub on : List ℕ → List Point → Contents Point
 on c l = on_points (standing_of c) l
 
-pub record Counted (c : List ℕ) (α : ℕ) (o : Queried) (l : List Point) : Type 0 where
+pub record Counted (c : List ℕ) (α : ℕ) (o : Result SignCounts Refusal) (l : List Point) : Type 0 where
   pub shown : CardGives c (α < 3 ^ polynomials c) 13 refused (number (query_in (on c l) α)) (shown_of o)
-  pub told : CardGives c (α < 3 ^ polynomials c) 13 of-query.Refused (of-query.Counts (counts_in (on c l) α)) o
+  pub told : CardGives c (α < 3 ^ polynomials c) 13 refusing (Ok (counts_in (on c l) α)) o
 
-pub record CountsOnce (c : List ℕ) (α : ℕ) (o : Queried) : Type 0 where
+pub record CountsOnce (c : List ℕ) (α : ℕ) (o : Result SignCounts Refusal) : Type 0 where
   pub counted : (l : List Point) → Named c l → Counted c α o l
-  pub add_up : (l : List Point) → Named c l → (t : SignCounts) → o ≡ of-query.Counts t → in_all t ≡ length l
+  pub add_up : (l : List Point) → Named c l → (t : SignCounts) → o ≡ Ok t → in_all t ≡ length l
   pub product_0 : (l : List Point) → Named c l → α ≡ 0
       → CardGives c (α < 3 ^ polynomials c) 13 refused (number (pos (length l))) (shown_of o)
   pub as_before : NoneTwice (standing_of c).points → Counted c α o (standing_of c).points
