@@ -10,8 +10,9 @@ use denote.Ref.{MutBor}
 use Rattle.refusals.specs.Limits.{most_polynomials}
 use Rattle.run_record.specs.declared.Run.{Run}
 use Rattle.determination.specs.declared.Answered.{Answered}
-use Rattle.determination.specs.declared.Fetched.{Fetched}
-use Rattle.determination.specs.declared.Copied as code
+use Rattle.determination.specs.declared.Row as code_row
+use Rattle.refusals.specs.declared.Refusal.{Refusal}
+use Rattle.std.specs.Prelude.{Result}
 use Rattle.run_record.specs.declared.Step as code_step
 use Rattle.runs.specs.Run.{Step, Fetch, Copy, ask, running, start_of, fetch_of, copy_of}
 use Rattle.run_record.specs.Record.{state_of, step_of, AnswerGives}
@@ -70,7 +71,7 @@ pub data Took (c : Run) (z : ℤ) (c' : Run) (x : Step) : Type 2 where
   on_lent : OnLent c z c' x → Took c z c' x
 
 pub record Fetches (c : Run) (p : ℕ) (x : Fetch) : Type 2 where
-  pub result : Fetched
+  pub result : Result code_row.Row Refusal
   pub kept : fetch.Learnt tt (c, (p, tt)) result (c, (p, tt))
   pub gave : x ≡ fetched_of result
 
@@ -104,7 +105,7 @@ pub record Copies (c : Run) (a b : List ℕ) (x : Copy) : Type 2 where
   pub counts : MutBor (List ℕ)
   pub patterns' : MutBor (List ℕ)
   pub counts' : MutBor (List ℕ)
-  pub result : code.Copied
+  pub result : Result ℕ Refusal
   pub kept : copy.Learnt lifetimes (c, (patterns, (counts, tt))) result (c, (patterns', (counts', tt)))
   pub lent_patterns : patterns.now ≡ a
   pub lent_counts : counts.now ≡ b

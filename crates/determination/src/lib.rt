@@ -13,9 +13,7 @@ ghost use Rattle.runs.specs.Run.{fetch_of, copy_of};
 ghost use Rattle.run_record.specs.Record.{is_done, run_of, state_of, step_of, AnswerGives, StartGives, StartIn};
 ghost use Rattle.determination.specs.Served.{fetched_of, copied_of};
 
-use refusals::{
-    LATE, MOST_POLYNOMIALS, MOST_PRODUCTS, MOST_ROWS, PAST_LAST, TOO_SHORT, WRONG_COUNT,
-};
+use refusals::{MOST_POLYNOMIALS, MOST_PRODUCTS, MOST_ROWS, Refusal};
 use run_parts::copy_front;
 use run_record::{CLOSED, DONE, Head, RUNNING, Run, Step, Turn, answer_parts, first_head};
 use signs::{Pattern, Product};
@@ -25,20 +23,6 @@ use signs::{Pattern, Product};
 pub struct Row {
     pub pattern: Pattern,
     pub count: u16,
-}
-
-// What a row fetch gives.
-#[derive(Clone, Copy)]
-pub enum Fetched {
-    Row(Row),
-    Refused(u16),
-}
-
-// What a copy of all rows gives: how many they are, or a refusal number.
-#[derive(Clone, Copy)]
-pub enum Copied {
-    Rows(usize),
-    Refused(u16),
 }
 
 // The record after a call, and the step.
@@ -75,13 +59,13 @@ pub fn start(s: usize) -> Answered
     if s < 1 {
         return Answered {
             run: fresh(s, CLOSED),
-            step: Step::Refused(WRONG_COUNT),
+            step: Step::Refused(Refusal::WrongCount),
         };
     }
     if MOST_POLYNOMIALS < s {
         return Answered {
             run: fresh(s, CLOSED),
-            step: Step::Refused(WRONG_COUNT),
+            step: Step::Refused(Refusal::WrongCount),
         };
     }
     Answered {
@@ -96,7 +80,7 @@ fn started(head: Head, s: usize) -> Turn
 {
     let refused = Turn {
         head: head, // as it was
-        step: Step::Refused(WRONG_COUNT),
+        step: Step::Refused(Refusal::WrongCount),
     };
     if s < 1 {
         return refused;
@@ -235,21 +219,20 @@ fn done(run: Run) -> bool
 }
 
 // The row at position p of a run that is done: 7 before done and after closed, 14 past the last row.
-pub fn fetch_row(run: Run, p: usize) -> Fetched
+pub fn fetch_row(run: Run, p: usize) -> Result<Row, Refusal>
     ensures { fetched_of result ≡ fetch_of (state_of run) p }
 {
     if !done(run) {
-        return Fetched::Refused(LATE);
+        return Err(Refusal::Late);
     }
     let rows = run.rows;
     if rows <= p {
-        return Fetched::Refused(PAST_LAST);
+        return Err(Refusal::PastLast);
     }
-    let row = Row {
+    Ok(Row {
         pattern: Pattern(run.patterns[p]),
         count: run.counts[p],
-    };
-    Fetched::Row(row)
+    })
 }
 
 // How many questions the run has asked.
@@ -261,20 +244,20 @@ pub fn asked(run: Run) -> usize
 
 // Copies all rows of a run that is done to the two slices. Returns how many they are: 7 before done and after closed, 15 where a slice is
 // shorter. A refusal leaves both slices as they were, and what lies past the rows is kept.
-pub fn copy_rows(run: Run, patterns: &mut [u16], counts: &mut [u16]) -> Copied
+pub fn copy_rows(run: Run, patterns: &mut [u16], counts: &mut [u16]) -> Result<usize, Refusal>
     ensures { record { result = copied_of result; patterns_left = patterns.new; counts_left = counts.new } ≡ copy_of (state_of run) patterns.old counts.old }
 {
     if !done(run) {
-        return Copied::Refused(LATE);
+        return Err(Refusal::Late);
     }
     let rows = run.rows;
     if patterns.len() < rows {
-        return Copied::Refused(TOO_SHORT);
+        return Err(Refusal::TooShort);
     }
     if counts.len() < rows {
-        return Copied::Refused(TOO_SHORT);
+        return Err(Refusal::TooShort);
     }
     copy_front(&run.patterns, rows, patterns);
     copy_front(&run.counts, rows, counts);
-    Copied::Rows(rows)
+    Ok(rows)
 }

@@ -14,16 +14,14 @@ ghost use Rattle.runs.specs.Run.{round_product};
 ghost use Rattle.run_parts.specs.Parts.{in_limits, Copied};
 
 use refusals::{MOST_POLYNOMIALS, MOST_PRODUCTS, MOST_ROWS};
-use run_round_end::{Next, next_rows};
+use run_round_end::next_rows;
 use signs::{Product, below, power};
 
 // The most points, as a record has their number.
 const MOST_POINTS: u64 = refusals::MOST_POINTS as u64;
 
-// The largest answer that counts can fit, and the least.
-const MOST_ANSWER: i8 = refusals::MOST_POINTS as i8;
-
-const LEAST_ANSWER: i8 = 0 - MOST_ANSWER;
+// The largest answer that counts can fit, of either sign.
+const MOST_ANSWER: u8 = refusals::MOST_POINTS as u8;
 
 // ---- tests
 
@@ -36,34 +34,18 @@ pub fn front_below(list: &[u16], n: usize, bound: u16) -> bool
 }
 
 // Whether a running record's numbers are such as the calls leave.
+#[tactic(auto, using(std::proofs::lemmas::Bool::Decides::nat_tests), unfolding(crate::specs::Parts::in_limits))]
 pub fn in_limits(s: usize, asked: usize, round: usize, n: u64, rows: usize, answered: usize) -> bool
     ensures { result ≡ in_limits s asked round n rows answered }
 {
-    if s < 1 {
-        return false;
-    }
-    if MOST_POLYNOMIALS < s {
-        return false;
-    }
-    if s < round {
-        return false;
-    }
-    if MOST_POINTS < n {
-        return false;
-    }
-    if MOST_ROWS < rows {
+    if s < 1 || MOST_POLYNOMIALS < s || s < round || MOST_POINTS < n || MOST_ROWS < rows {
         return false;
     }
     if round == 0 {
-        if answered == 0 {
-            return asked == 0;
-        }
-        return false;
+        answered == 0 && asked == 0
+    } else {
+        answered < 2 * rows && asked <= MOST_PRODUCTS * round + answered
     }
-    if answered < 2 * rows {
-        return asked <= MOST_PRODUCTS * round + answered;
-    }
-    false
 }
 
 // ---- the products of a round
@@ -74,11 +56,11 @@ pub fn round_product(i: usize, list: &[u16], n: usize, k: usize) -> Product
     ensures { result.0 ≡ round_product i (take n list.now) k }
 {
     let once = power(i);
-    let twice = 2 * once;
     if k < n {
-        return Product(list[k] + once);
+        Product(list[k] + once)
+    } else {
+        Product(list[k - n] + 2 * once)
     }
-    Product(list[k - n] + twice)
 }
 
 // ---- the rows after a round
@@ -87,13 +69,7 @@ pub fn round_product(i: usize, list: &[u16], n: usize, k: usize) -> Product
 fn still_within(all: bool, z: i8) -> bool
     ensures { result ≡ leb (nat_abs z) most_points && all }
 {
-    if z < LEAST_ANSWER {
-        return false;
-    }
-    if MOST_ANSWER < z {
-        return false;
-    }
-    all
+    z.unsigned_abs() <= MOST_ANSWER && all
 }
 
 // Copies the answers to the front of out, 16 bits wide. False where one is outside −64 .. 64.
@@ -102,12 +78,9 @@ fn copy_answers(answers: &[i8], out: &mut [i16]) -> bool
     ensures { Copied answers.now out.new result }
 {
     let mut all = true;
-    let mut k = 0;
-    while k < answers.len() {
-        let z = answers[k];
+    for (k, &z) in answers.iter().enumerate() {
         all = still_within(all, z);
-        out[k] = z as i16;
-        k += 1;
+        out[k] = i16::from(z);
     }
     all
 }
@@ -122,7 +95,7 @@ pub fn find_rows(
     last: i64,
     new: &mut [u16],
     numbers: &mut [u16],
-) -> Next
+) -> Option<usize>
     requires i_lt_most_polynomials { (i < most_polynomials) × (length counts.now ≡ length patterns.now) × (length answers.now + 1 ≡ 2 * length patterns.now) × (length patterns.now ≤ most_points) }
     requires last_bound { (nat_abs last ≤ most_points) × (most_points ≤ length new.old) × (most_points ≤ length numbers.old) }
     ensures { Left (round_rows i (rows_with patterns.now counts.now) (answers.now ++ (last ∷ []))) result new.new numbers.new }
@@ -131,10 +104,10 @@ pub fn find_rows(
     let mut x = [0i16; MOST_ROWS];
     let mut y = [0i16; MOST_ROWS];
     if !copy_answers(&answers[..n], &mut x) {
-        return Next::None;
+        return None;
     }
     if !copy_answers(&answers[n..], &mut y) {
-        return Next::None;
+        return None;
     }
     y[n - 1] = last as i16;
     next_rows(i, patterns, counts, &x[..n], &y[..n], new, numbers)
@@ -147,9 +120,5 @@ pub fn copy_front(list: &[u16], n: usize, out: &mut [u16])
     requires { (n ≤ length list.now) × (n ≤ length out.old) }
     ensures { out.new ≡ take n list.now ++ drop n out.old }
 {
-    let mut k = 0;
-    while k < n {
-        out[k] = list[k];
-        k += 1;
-    }
+    out[..n].copy_from_slice(&list[..n]);
 }

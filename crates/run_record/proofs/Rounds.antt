@@ -18,7 +18,6 @@ use Rattle.signs.proofs.Blocks.{adapted_below}
 use Rattle.rounds.specs.Rows.{Row, patterns, counts, row_if, rows_with}
 use Rattle.rounds.specs.RoundEnd.{round_rows}
 use Rattle.run_round_end.specs.Outcome.{Left}
-use Rattle.run_round_end.specs.declared.Next.{Next}
 use Rattle.rounds.proofs.RowLaws.{length-patterns}
 use Rattle.run_round_end.proofs.StepLaws.{length-counts}
 use Rattle.runs.specs.Run.{State, Step, ask, round_product, ended, end_round, round_step}
@@ -28,7 +27,7 @@ use Rattle.run_record.specs.declared.Run.{Run}
 use Rattle.runs.proofs.Held.{with_patterns, with_own, stored, below_all}
 use Rattle.run_record.proofs.Records.{later_from, sound_below, sound_to, limits_to, running_is, running_to, running_phase_lem}
 use Rattle.run_record.proofs.Records.{running-sound}
-use Rattle.run_round_end.specs.declared.Next.TheVariants as next
+use Rattle.std.specs.Prelude.{Option as Found, Some, None}
 
 -- the numbers as the code leaves them after an answer to a run that goes on
 abbrev counted : Head → ℕ → ℕ → ℕ → ℕ → Head
@@ -142,18 +141,18 @@ ends-alike h P C Q A P' C' Q' A' i R = go (eqb (suc i) h.polynomials)
 
 -- ---- the end of a round, as the call left it
 
-pub left_none : (o : Option (List Row)) (x : Next) (P C : List ℕ) → Left o x P C → x ≡ next.None → o ≡ none
+pub left_none : (o : Option (List Row)) (x : Found ℕ) (P C : List ℕ) → Left o x P C → x ≡ None → o ≡ none
 left_none none x P C l e = refl
 left_none (some R) x P C l e = let z : ◌≡◌ {A = ℕ} 0 1 = cc l.0 in absurd (omega arith)
 
-pub record Some (o : Option (List Row)) (n : ℕ) (P C : List ℕ) : Type 0 where
+pub record HasRows (o : Option (List Row)) (n : ℕ) (P C : List ℕ) : Type 0 where
   pub rows : List Row
   pub is : o ≡ some rows
   pub number : length rows ≡ n
   pub its_patterns : take n P ≡ patterns rows
   pub its_counts : take n C ≡ counts rows
 
-pub left_some : (o : Option (List Row)) (x : Next) (n : ℕ) (P C : List ℕ) → Left o x P C → x ≡ next.Rows n → Some o n P C
+pub left_some : (o : Option (List Row)) (x : Found ℕ) (n : ℕ) (P C : List ℕ) → Left o x P C → x ≡ Some n → HasRows o n P C
 left_some none x n P C l e = let z : ◌≡◌ {A = ℕ} 0 1 = cc l in absurd (omega arith)
 left_some (some R) x n P C l e =
     let k : length R ≡ n = cc l.0 in
@@ -165,7 +164,7 @@ left_some (some R) x n P C l e =
       its_counts = subst (λ (m : ℕ). take m C ≡ counts R) k l.2;
     }
 
-module _ (o : Option (List Row)) (n : ℕ) (P C : List ℕ) (s : Some o n P C) where
+module _ (o : Option (List Row)) (n : ℕ) (P C : List ℕ) (s : HasRows o n P C) where
   pub some-few : length P ≡ 64 → n ≤ 64
   some-few e = omega (arith, s.number, length-patterns s.rows, ap length s.its_patterns, length-take n P)
 
@@ -179,7 +178,7 @@ module _ (o : Option (List Row)) (n : ℕ) (P C : List ℕ) (s : Some o n P C) w
 
   -- the same rows at the front of two other arrays
   pub some_copied : (P₀ C₀ P' C' : List ℕ) → length P ≡ 64 → n ≤ 64 → P' ≡ take n P ++ drop n P₀ → C' ≡ take n C ++ drop n C₀
-      → Some o n P' C'
+      → HasRows o n P' C'
   some_copied P₀ C₀ P' C' e h p c =
       record {
         rows = s.rows;

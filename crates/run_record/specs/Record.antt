@@ -27,6 +27,7 @@
 --   StartIn run s run' step     == what a start for s in the lent record run promises of the record run' after it and of the step
 use Rattle.std.specs.Prelude.{◌≡◌, Bool, true, cond, ◌&&◌, List, [], ◌∷◌, ◌++◌, ℕ, suc, ◌+◌, ◌*◌, ◌-◌, ◌^◌, ◌≤◌, eqb, leb, ℤ, take}
 use Rattle.refusals.specs.Numbers.{late, wrong_count, is_among, closing_numbers}
+use Rattle.refusals.specs.Refusals.{number_of}
 use Rattle.refusals.specs.Limits.{most_points, most_polynomials}
 use Rattle.signs.specs.Lists.{is_below}
 use Rattle.rounds.specs.Rows.{rows_with}
@@ -44,7 +45,7 @@ use Rattle.run_record.specs.declared.Step.TheVariants as steps
 abbrev pub step_of : code_step.Step → Step
 step_of (steps.Ask p) = ask p.0
 step_of steps.Done = done
-step_of (steps.Refused k) = refused k
+step_of (steps.Refused e) = refused (number_of e)
 
 -- ---- the record
 

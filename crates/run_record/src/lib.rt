@@ -13,6 +13,7 @@
 ghost use Rattle.std.specs.Prelude.{◌≡◌, true, false, List, [], ℕ, suc, ◌+◌, ◌*◌, ◌-◌, ◌^◌, ◌≤◌, ◌<◌, ℤ, nat_abs, length, take};
 ghost use Rattle.std.proofs.Math.Option.{some};
 ghost use Rattle.refusals.specs.Limits.{most_polynomials, most_points};
+ghost use Rattle.refusals.specs.Refusals.{number_of};
 ghost use Rattle.signs.specs.Lists.{Below, Rising};
 ghost use Rattle.rounds.specs.Rows.{rows_with};
 ghost use Rattle.rounds.specs.RoundEnd.{round_rows};
@@ -21,9 +22,8 @@ ghost use Rattle.run_record.specs.Record.{running_phase, most_asked, is_sound, i
 
 use adapted::adapted;
 use integers::magnitude;
-use refusals::{BAD_FIRST, BAD_LATER, LATE, MOST_PRODUCTS, MOST_ROWS, NO_COUNTS};
+use refusals::{MOST_PRODUCTS, MOST_ROWS, Refusal};
 use run_parts::{copy_front, find_rows, front_below, in_limits, round_product};
-use run_round_end::Next;
 use signs::{Product, power};
 
 // The most points, as the record has their number.
@@ -36,12 +36,12 @@ pub const DONE: u8 = 1;
 
 pub const CLOSED: u8 = 2;
 
-// What an answer gives: the next product to ask, done, or a refusal number. 8, 9 and 10 close the run; 7 leaves it was.
+// What an answer gives: the next product to ask, done, or why it is refused. 8, 9 and 10 close the run; 7 leaves it as it was.
 #[derive(Clone, Copy)]
 pub enum Step {
     Ask(Product),
     Done,
-    Refused(u16),
+    Refused(Refusal),
 }
 
 // The run record. Of `patterns`, `counts` and `products`, the adapted list, the first `rows` count, and of `answers` the first `answered`. Answers fit
@@ -131,9 +131,9 @@ fn running(head: Head, products: &[u16]) -> bool
 }
 
 // The record closed by a refusal: one more question, no rows and no answers, whatever its arrays hold.
-fn close(mut head: Head, k: u16) -> Turn
+fn close(mut head: Head, cause: Refusal) -> Turn
     requires { head.asked < most_asked }
-    ensures { (P C Q : List ℕ) (A : List ℤ) → ((state_of (run_of result.head P C Q A), step_of result.step) ≡ close_of round_rows (running_state (run_of head P C Q A)) k) × IsClosed (run_of result.head P C Q A) }
+    ensures { (P C Q : List ℕ) (A : List ℤ) → ((state_of (run_of result.head P C Q A), step_of result.step) ≡ close_of round_rows (running_state (run_of head P C Q A)) (number_of cause)) × IsClosed (run_of result.head P C Q A) }
 {
     head.asked = head.asked + 1;
     head.phase = CLOSED;
@@ -141,7 +141,7 @@ fn close(mut head: Head, k: u16) -> Turn
     head.answered = 0; // none of the round that is left
     Turn {
         head: head,
-        step: Step::Refused(k),
+        step: Step::Refused(cause),
     }
 }
 
@@ -202,11 +202,11 @@ fn first_answer(
     ensures { (A : List ℤ) → ((state_of (run_of result.head patterns.new counts.new products.new A), step_of result.step) ≡ first_of round_rows (running_state (run_of head patterns.old counts.old products.old A)) a) × ClosedWhere (run_of result.head patterns.new counts.new products.new A) (step_of result.step) }
 {
     if a < 0 {
-        return close(head, BAD_FIRST);
+        return close(head, Refusal::BadFirst); // below 0
     }
     let n = magnitude(a);
     if MOST_POINTS < n {
-        return close(head, BAD_FIRST);
+        return close(head, Refusal::BadFirst); // above 64
     }
     if n == 0 {
         return finish(head, 0, 0, 0);
@@ -274,8 +274,8 @@ fn end_round(
         &mut numbers,
     );
     match next {
-        Next::None => close(head, NO_COUNTS),
-        Next::Rows(n) => {
+        None => close(head, Refusal::NoCounts),
+        Some(n) => {
             copy_front(&new, n, patterns);
             copy_front(&numbers, n, counts);
             next_round(head, n, patterns, products)
@@ -300,7 +300,7 @@ fn later_answer(
     let k = head.answered;
     let rows = head.rows;
     if n < magnitude(a) {
-        return close(head, BAD_LATER);
+        return close(head, Refusal::BadLater);
     }
     if k + 1 < 2 * rows {
         return ask_next(head, products, answers, a);
@@ -323,7 +323,7 @@ pub fn answer_parts(
     if !running(head, products) {
         return Turn {
             head: head,
-            step: Step::Refused(LATE),
+            step: Step::Refused(Refusal::Late),
         };
     }
     if head.round == 0 {

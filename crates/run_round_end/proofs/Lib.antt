@@ -1,3 +1,4 @@
+mod AndLaws
 pub mod SplitLaws
 pub mod StepLaws
 pub mod MomentLaws

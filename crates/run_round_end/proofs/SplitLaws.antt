@@ -4,11 +4,11 @@ use mathlib.Core.Bool.{true, false, ◌&&◌}
 use Prim.Native.Nat.{ℕ, ◌+◌, ◌%◌, ◌≤◌}
 use lib.Dec.{T, eqb}
 use lib.IntN.{ℤ, pos, nat_abs, ◌+ℤ◌, ◌-ℤ◌}
-use lib.Signed.{le_z, lt_z, non_neg}
+use lib.Signed.{le_z, non_neg}
 use mir.Syntax.{w16}
 use mir.Val.{Fits, SFits}
 use Rattle.refusals.specs.Limits.{most_points}
-use Rattle.integers.proofs.Parts.{up, dn, parts, side, sum, dif, int}
+use Rattle.integers.proofs.Parts.{up, dn, parts, side, sum, dif, int, same_test}
 use Rattle.signs.proofs.Orders.{both_left, both_right}
 use Rattle.rounds.specs.Moments.{splits}
 
@@ -21,33 +21,15 @@ pub record Bounded (d : ℕ) (e g : ℤ) : Type 0 where
 module _ (d : ℕ) (e g : ℤ) where
   -- ---- the test
 
-  pub splits_above : lt_z (pos d) g ≡ true → splits d e g ≡ false
+  -- the test as the code makes it
+  pub splits_is : splits d e g ≡ (le_z g (pos d) && le_z (pos 0) (g +ℤ e) && le_z e g && eqb (nat_abs (g +ℤ e) % 2) 0)
   unfolding splits
-  splits_above t = let u : le_z g (pos d) ≡ false = omega int in rw u refl
-
-  pub splits-low : lt_z (pos d) g ≡ false → lt_z (g +ℤ e) (pos 0) ≡ true → splits d e g ≡ false
-  unfolding splits
-  splits-low s t =
-      let a : le_z g (pos d) ≡ true = omega int in
-      let b : le_z (pos 0) (g +ℤ e) ≡ false = omega int in
-      rw (a, b) refl
-
-  pub splits_high : lt_z (pos d) g ≡ false → lt_z (g +ℤ e) (pos 0) ≡ false → lt_z g e ≡ true → splits d e g ≡ false
-  unfolding splits
-  splits_high s t u =
-      let a : le_z g (pos d) ≡ true = omega int in
-      let b : le_z (pos 0) (g +ℤ e) ≡ true = omega int in
-      let c : le_z (pos 0) (g -ℤ e) ≡ false = omega (int, dif g e) in
-      rw (a, b, c) refl
-
-  pub splits-inside : lt_z (pos d) g ≡ false → lt_z (g +ℤ e) (pos 0) ≡ false → lt_z g e ≡ false → splits d e g
-      ≡ eqb (nat_abs (g +ℤ e) % 2) 0
-  unfolding splits
-  splits-inside s t u =
-      let a : le_z g (pos d) ≡ true = omega int in
-      let b : le_z (pos 0) (g +ℤ e) ≡ true = omega int in
-      let c : le_z (pos 0) (g -ℤ e) ≡ true = omega (int, dif g e) in
-      rw (a, b, c) refl
+  splits_is =
+      let c : le_z (pos 0) (g -ℤ e) ≡ le_z e g =
+      same_test (λ t. let u : le_z (pos 0) (g -ℤ e) ≡ true = t in omega (int, dif g e))
+      (λ t. let u : le_z (pos 0) (g -ℤ e) ≡ false = t in omega (int, dif g e))
+      in
+      rw c refl
 
   pub splits_bounded : splits d e g ≡ true → Bounded d e g
   unfolding splits

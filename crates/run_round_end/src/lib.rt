@@ -19,13 +19,6 @@ use refusals::MOST_ROWS;
 use signs::{below, power, rising};
 use solver_recursion::solve_pair;
 
-// The number of rows after a round, or that no counts fit its answers.
-#[derive(Clone, Copy)]
-pub enum Next {
-    Rows(usize),
-    None,
-}
-
 // What the counts may add up to.
 const MOST_POINTS: u16 = refusals::MOST_POINTS as u16;
 
@@ -36,17 +29,11 @@ fn proper_counts(counts: &[u16]) -> bool
     ensures { result ≡ proper_counts counts.now }
 {
     let mut left = MOST_POINTS;
-    let mut k = 0;
-    while k < counts.len() {
-        let c = counts[k];
-        if c == 0 {
+    for &count in counts {
+        if count == 0 || left < count {
             return false;
         }
-        if left < c {
-            return false;
-        }
-        left -= c;
-        k += 1;
+        left -= count;
     }
     true
 }
@@ -56,13 +43,7 @@ fn proper_rows(i: usize, patterns: &[u16], counts: &[u16]) -> bool
     requires { (i < most_polynomials) × (length counts.now ≡ length patterns.now) }
     ensures { result ≡ proper_rows i (rows_with patterns.now counts.now) }
 {
-    if !rising(patterns) {
-        return false;
-    }
-    if !below(patterns, power(i)) {
-        return false;
-    }
-    proper_counts(counts)
+    rising(patterns) && below(patterns, power(i)) && proper_counts(counts)
 }
 
 // ---- the counts of a row, extended by the three signs
@@ -72,16 +53,7 @@ fn splits(d: u16, e: i16, g: i16) -> bool
     requires { (d ≤ most_points) × (nat_abs e ≤ most_points) × (nat_abs g ≤ most_points) }
     ensures { result ≡ splits d e g }
 {
-    if (d as i16) < g {
-        return false;
-    }
-    if g + e < 0 {
-        return false;
-    }
-    if g < e {
-        return false;
-    }
-    (g + e) as u16 % 2 == 0
+    g <= d as i16 && 0 <= g + e && e <= g && (g + e) as u16 % 2 == 0
 }
 
 // The count of a row, extended by the sign of the digit t.
@@ -89,13 +61,11 @@ fn count_with(t: u8, d: u16, e: i16, g: i16) -> u16
     requires { (t < 3) × (d ≤ most_points) × (splits d e g ≡ true) }
     ensures { result ≡ with_sign t d e g }
 {
-    if t == 0 {
-        return (d as i16 - g) as u16;
+    match t {
+        0 => (d as i16 - g) as u16,
+        1 => (g + e) as u16 / 2,
+        _ => (g - e) as u16 / 2,
     }
-    if t == 1 {
-        return (g + e) as u16 / 2;
-    }
-    (g - e) as u16 / 2
 }
 
 // Whether every row's three counts are whole numbers, 0 or more.
@@ -104,12 +74,10 @@ fn all_split(patterns: &[u16], counts: &[u16], es: &[i16], gs: &[i16]) -> bool
     requires counts_bound { (sum counts.now ≤ most_points) × Within most_points es.now × Within most_points gs.now }
     ensures { result ≡ all_split (rows_with patterns.now counts.now) es.now gs.now }
 {
-    let mut j = 0;
-    while j < patterns.len() {
+    for j in 0..patterns.len() {
         if !splits(counts[j], es[j], gs[j]) {
             return false;
         }
-        j += 1;
     }
     true
 }
@@ -154,11 +122,9 @@ fn put_rows(
 {
     let base = t as u16 * w;
     let mut next = k;
-    let mut j = 0;
-    while j < patterns.len() {
+    for j in 0..patterns.len() {
         let count = count_with(t, counts[j], es[j], gs[j]);
         next = put_row(patterns[j] + base, count, new, numbers, next);
-        j += 1;
     }
     next
 }
@@ -172,20 +138,20 @@ fn judge(
     gs: &[i16],
     new: &mut [u16],
     numbers: &mut [u16],
-) -> Next
+) -> Option<usize>
     requires i_lt_most_polynomials { (i < most_polynomials) × (length counts.now ≡ length patterns.now) × (length es.now ≡ length patterns.now) × (length gs.now ≡ length patterns.now) }
     requires counts_value { (proper_rows i (rows_with patterns.now counts.now) ≡ true) × Within most_points es.now × Within most_points gs.now }
     requires most_points_in_bounds { (most_points ≤ length new.old) × (most_points ≤ length numbers.old) }
     ensures { Left (judged i (rows_with patterns.now counts.now) es.now gs.now) result new.new numbers.new }
 {
     if !all_split(patterns, counts, es, gs) {
-        return Next::None;
+        return None;
     }
     let w = power(i);
     let zero = put_rows(0, w, patterns, counts, es, gs, new, numbers, 0);
     let plus = put_rows(1, w, patterns, counts, es, gs, new, numbers, zero);
     let minus = put_rows(2, w, patterns, counts, es, gs, new, numbers, plus);
-    Next::Rows(minus)
+    Some(minus)
 }
 
 // The same from the round's answers, with room for the two solutions: the first half of the answers, x, has the one, the second, y, the other.
@@ -199,14 +165,14 @@ fn by_moments(
     gs: &mut [i16],
     new: &mut [u16],
     numbers: &mut [u16],
-) -> Next
+) -> Option<usize>
     requires i_lt_most_polynomials { (i < most_polynomials) × (length counts.now ≡ length patterns.now) × (length x.now ≡ length patterns.now) × (length y.now ≡ length patterns.now) }
     requires within { Within most_points x.now × Within most_points y.now × (length es.old ≡ length patterns.now) × (length gs.old ≡ length patterns.now) }
     requires counts_value { (proper_rows i (rows_with patterns.now counts.now) ≡ true) × (most_points ≤ length new.old) × (most_points ≤ length numbers.old) }
     ensures { Left (by_moments i (rows_with patterns.now counts.now) (x.now ++ y.now)) result new.new numbers.new }
 {
     if !solve_pair(patterns, i, x, y, es, gs) {
-        return Next::None;
+        return None;
     }
     judge(i, patterns, counts, es, gs, new, numbers)
 }
@@ -221,13 +187,13 @@ pub fn next_rows(
     y: &[i16],
     new: &mut [u16],
     numbers: &mut [u16],
-) -> Next
+) -> Option<usize>
     requires i_lt_most_polynomials { (i < most_polynomials) × (length counts.now ≡ length patterns.now) × (length x.now ≡ length patterns.now) × (length y.now ≡ length patterns.now) }
     requires within { Within most_points x.now × Within most_points y.now × (most_points ≤ length new.old) × (most_points ≤ length numbers.old) }
     ensures { Ended i patterns.now counts.now (x.now ++ y.now) result new.new numbers.new }
 {
     if !proper_rows(i, patterns, counts) {
-        return Next::None;
+        return None;
     }
     let n = patterns.len();
     let mut es = [0i16; MOST_ROWS];

@@ -7,6 +7,3 @@ use Rattle.run_parts.proofs.copy_answers.Given as goal
 
 abbrev pub invariant-loop-k : goal.invariant-loop-k
 invariant-loop-k l = Copying l.answers l.initial.out l.out l.k × Told l.all l.answers l.k
-
-abbrev pub decreases-loop-k : goal.decreases-loop-k
-decreases-loop-k l = length l.answers - l.k

@@ -20,8 +20,8 @@ bound c k h =
     let b = below_at (3 ^ c.args.i) (take c.args.n c.args.list.now) c.requires.2 k (omega (arith, front c)) in
     rw (get_or-take c.args.n c.args.list.now k 0 h) at b
 
-pub overflow_mul-twice : goal.overflow_mul-twice
-overflow_mul-twice c =
+pub overflow_mul-result : goal.overflow_mul-result
+overflow_mul-result c =
     let w : 3 ^ c.args.i ≤ 2187 = three_mono c.args.i 7 (omega (arith, c.requires.0)) in
     omega arith
 
@@ -41,17 +41,17 @@ returns-then-k-n c =
       ← c.power-once.ensures,
     ) refl
 
-pub overflow_add-result-2 : goal.overflow_add-result-2
-overflow_add-result-2 c =
+pub overflow_add-result-else-k-n : goal.overflow_add-result-else-k-n
+overflow_add-result-else-k-n c =
     let w : 3 ^ c.args.i ≤ 2187 = three_mono c.args.i 7 (omega (arith, c.requires.0)) in
-    let b = bound (goal.at.overflow_add-result-2 c).Start (c.args.k - c.args.n) (omega arith) in
+    let b = bound (goal.at.overflow_add-result-else-k-n c).Start (c.args.k - c.args.n) (omega arith) in
     omega arith
 
-pub returns : goal.returns
+pub returns-else-k-n : goal.returns-else-k-n
 unfolding round_product
-returns c =
+returns-else-k-n c =
     rw (
-      front (goal.at.returns c).Start,
+      front (goal.at.returns-else-k-n c).Start,
       le-ltb c.args.k c.args.n c.if-k-n.false,
       get_or-take c.args.n c.args.list.now (c.args.k - c.args.n) 0 (omega arith),
       ← c.power-once.ensures,

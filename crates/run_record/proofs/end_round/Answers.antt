@@ -1,6 +1,6 @@
 -- `run_record::end_round` meets its contract: the rows that the call left are those of the rules, and fit the next round.
 use Prim.Native.Nat.{ℕ}
-use Rattle.run_round_end.specs.declared.Next.TheVariants.{Rows}
+use Rattle.std.specs.Prelude.{Some}
 use mathlib.Core.List.{[], List, ◌∷◌, ◌++◌}
 use mathlib.Core.Option.{Option}
 use mathlib.Core.Path.{◌≡◌, sym, ◌∙◌}
@@ -19,9 +19,9 @@ use Rattle.run_record.specs.declared.Run.{Run}
 use Rattle.runs.proofs.Ends.{ends-rising, ends-below, ends_some}
 use Rattle.runs.proofs.Held.{with_length}
 use Rattle.run_record.proofs.Records.{Later, later_from}
-use Rattle.run_record.proofs.Rounds.{Some, left_none, left_some, some-few, some-counts, some-held, some_copied, ends-alike}
+use Rattle.run_record.proofs.Rounds.{HasRows, left_none, left_some, some-few, some-counts, some-held, some_copied, ends-alike}
 use Rattle.run_record.proofs.end_round.Goals as goal
-use Rattle.run_record.proofs.end_round.Goals.{After-copy_front-in-Rows, After-find_rows-next, Start}
+use Rattle.run_record.proofs.end_round.Goals.{After-copy_front-in-Some, After-find_rows-next, Start}
 
 -- the record before the answer, and the rows after the round, as the rules have them
 abbrev run : (st : Start) → Run
@@ -41,8 +41,8 @@ left : (c : After-find_rows-next)
 left c =
     rw (to_z-of_z w64 c.args.a c.ranges.a) at c.find_rows-next.ensures
 
-got : (c : After-find_rows-next) (n : ℕ) → c.find_rows-next.result ≡ Rows n
-    → Some (after (goal.at.After-find_rows-next c).Start) n c.find_rows-next.new.new c.find_rows-next.new.numbers
+got : (c : After-find_rows-next) (n : ℕ) → c.find_rows-next.result ≡ Some n
+    → HasRows (after (goal.at.After-find_rows-next c).Start) n c.find_rows-next.new.new c.find_rows-next.new.numbers
 got c n e =
     left_some (after (goal.at.After-find_rows-next c).Start) c.find_rows-next.result n c.find_rows-next.new.new c.find_rows-next.new.numbers
     (left c) e
@@ -51,19 +51,19 @@ got c n e =
 room : (c : After-find_rows-next) → length c.find_rows-next.new.new ≡ 64
 room c = c.find_rows-next.auto.new
 
-few : (c : After-find_rows-next) (n : ℕ) → c.find_rows-next.result ≡ Rows n → n ≤ 64
+few : (c : After-find_rows-next) (n : ℕ) → c.find_rows-next.result ≡ Some n → n ≤ 64
 few c n e = some-few (after (goal.at.After-find_rows-next c).Start) _ _ _ (got c n e) (room c)
 
 -- and as they were copied
-moved : (c : After-copy_front-in-Rows)
-    → Some (after (goal.at.After-copy_front-in-Rows c).Start)
-    c.in-Rows.n c.copy_front.new.out c.copy_front-in-Rows.new.out
+moved : (c : After-copy_front-in-Some)
+    → HasRows (after (goal.at.After-copy_front-in-Some c).Start)
+    c.in-Some.n c.copy_front.new.out c.copy_front-in-Some.new.out
 moved c =
-    some_copied (after (goal.at.After-copy_front-in-Rows c).Start)
-    _ _ _ (got (goal.at.After-copy_front-in-Rows c).After-find_rows-next c.in-Rows.n c.in-Rows.is) _ _ _ _
-    (room (goal.at.After-copy_front-in-Rows c).After-find_rows-next)
-    (few (goal.at.After-copy_front-in-Rows c).After-find_rows-next c.in-Rows.n c.in-Rows.is)
-    c.copy_front.ensures c.copy_front-in-Rows.ensures
+    some_copied (after (goal.at.After-copy_front-in-Some c).Start)
+    _ _ _ (got (goal.at.After-copy_front-in-Some c).After-find_rows-next c.in-Some.n c.in-Some.is) _ _ _ _
+    (room (goal.at.After-copy_front-in-Some c).After-find_rows-next)
+    (few (goal.at.After-copy_front-in-Some c).After-find_rows-next c.in-Some.n c.in-Some.is)
+    c.copy_front.ensures c.copy_front-in-Some.ensures
 
 -- there are rows before the round
 rows_before : (c : Start) → 0 < length (running_state (run c)).rows
@@ -120,20 +120,20 @@ close-requires c = (later (goal.at.close-requires c).Start).least_asked
 
 pub copy_front-requires : goal.copy_front-requires
 copy_front-requires c =
-    let l = few (goal.at.copy_front-requires c).After-find_rows-next c.in-Rows.n c.in-Rows.is in
+    let l = few (goal.at.copy_front-requires c).After-find_rows-next c.in-Some.n c.in-Some.is in
     (omega (arith, room (goal.at.copy_front-requires c).After-find_rows-next), omega (arith, c.requires.patterns_len.0))
 
-pub copy_front-requires-in-Rows : goal.copy_front-requires-in-Rows
-copy_front-requires-in-Rows c =
-    let l = few (goal.at.copy_front-requires-in-Rows c).After-find_rows-next c.in-Rows.n c.in-Rows.is in (
-      some-counts (after (goal.at.copy_front-requires-in-Rows c).Start) _ _ _
-          (got (goal.at.copy_front-requires-in-Rows c).After-find_rows-next c.in-Rows.n c.in-Rows.is),
+pub copy_front-requires-in-Some : goal.copy_front-requires-in-Some
+copy_front-requires-in-Some c =
+    let l = few (goal.at.copy_front-requires-in-Some c).After-find_rows-next c.in-Some.n c.in-Some.is in (
+      some-counts (after (goal.at.copy_front-requires-in-Some c).Start) _ _ _
+          (got (goal.at.copy_front-requires-in-Some c).After-find_rows-next c.in-Some.n c.in-Some.is),
       omega (arith, c.requires.patterns_len.1),
     )
 
 pub next_round-requires : goal.next_round-requires
 next_round-requires c =
-    let s = moved (goal.at.next_round-requires c).After-copy_front-in-Rows in
+    let s = moved (goal.at.next_round-requires c).After-copy_front-in-Some in
     let r = run (goal.at.next_round-requires c).Start in
     let i = r.round - 1 in
     let ws = take r.answered r.answers ++ (c.args.a ∷ []) in
@@ -145,7 +145,7 @@ next_round-requires c =
         c.requires.products_value.0,
         c.requires.products_value.1,
         omega (arith, s.number),
-        few (goal.at.next_round-requires c).After-find_rows-next c.in-Rows.n c.in-Rows.is,
+        few (goal.at.next_round-requires c).After-find_rows-next c.in-Some.n c.in-Some.is,
       );
       patterns_len = (
         c.copy_front.auto.out ∙ c.requires.patterns_len.0,
@@ -161,15 +161,15 @@ returns-in-None c =
     let k = c.close.ensures c.args.patterns.now c.args.counts.now c.args.products.now c.args.answers.now in
     (rw e k.0, λ j _. k.1)
 
-pub returns-in-Rows : goal.returns-in-Rows
-returns-in-Rows c =
-    let n = c.in-Rows.n in
+pub returns-in-Some : goal.returns-in-Some
+returns-in-Some c =
+    let n = c.in-Some.n in
     let P = c.copy_front.new.out in
-    let C = c.copy_front-in-Rows.new.out in
+    let C = c.copy_front-in-Some.new.out in
     let Q = c.args.products.now in
     let A = c.args.answers.now in
-    let e = some-held (after (goal.at.returns-in-Rows c).Start) (n) P C (moved (goal.at.returns-in-Rows c).After-copy_front-in-Rows) in
-    let k = c.next_round.ensures C A (c.copy_front-in-Rows.auto.out ∙ c.requires.patterns_len.1) in
+    let e = some-held (after (goal.at.returns-in-Some c).Start) (n) P C (moved (goal.at.returns-in-Some c).After-copy_front-in-Some) in
+    let k = c.next_round.ensures C A (c.copy_front-in-Some.auto.out ∙ c.requires.patterns_len.1) in
     let l = ends-alike c.args.head P C Q A c.args.patterns.now c.args.counts.now Q A (c.args.head.round - 1)
     (rows_with (take (n) P) (take (n) C)) in
     (rw e (k.0 ∙ l), k.1)

@@ -1,7 +1,7 @@
 -- `run_round_end::all_split` meets its contract: the test is that of the rows left.
 use mathlib.Core.Path.{◌≡◌, refl, sym, ◌∙◌}
 use mathlib.Core.Bool.{◌&&◌}
-use Prim.Native.Nat.{◌+◌, ◌-◌}
+use Prim.Native.Nat.{◌+◌}
 use native.Mathlib.Omega.{arith}
 use lib.IntN.{pos}
 use mir.Syntax.{w16}
@@ -48,17 +48,14 @@ next_here c =
 pub returns-then-not-splits : goal.returns-then-not-splits
 returns-then-not-splits c =
     let t = sym (splits_here (goal.at.returns-then-not-splits c).After-splits) ∙ c.if-not-splits.true in
-    sym (c.loop-j.invariant.1 ∙ next_here (goal.at.returns-then-not-splits c).In-loop-j
+    sym (c.loop-j.invariant ∙ next_here (goal.at.returns-then-not-splits c).In-loop-j
     ∙ rw t refl)
 
 pub loop-j-preserved : goal.loop-j-preserved
 loop-j-preserved c =
-    let t = sym (splits_here (goal.at.loop-j-preserved c).After-splits) ∙ c.if-not-splits.false in (
-      omega arith,
-      c.loop-j.invariant.1 ∙ next_here (goal.at.loop-j-preserved c).In-loop-j
-          ∙ rw t refl,
-    )
+    let t = sym (splits_here (goal.at.loop-j-preserved c).After-splits) ∙ c.if-not-splits.false in
+    c.loop-j.invariant ∙ next_here (goal.at.loop-j-preserved c).In-loop-j ∙ rw t refl
 
 pub returns : goal.returns
 returns c =
-    sym (c.loop-j.invariant.1 ∙ splits-done c.args.patterns.now c.args.counts.now c.args.es.now c.args.gs.now c.loop-j.j (omega arith))
+    sym (c.loop-j.invariant ∙ splits-done c.args.patterns.now c.args.counts.now c.args.es.now c.args.gs.now c.loop-j.j (omega arith))

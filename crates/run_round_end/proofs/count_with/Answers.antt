@@ -33,38 +33,38 @@ overflow_sub-result c =
     rw (to_z_pos w16 {n = c.args.d} (omega (arith, c.requires)), to_z-of_z c.ranges.g)
     (zero-fits c.args.d c.args.e c.args.g c.requires.1 (small (goal.at.overflow_sub-result c).Start))
 
-pub overflow_cast-result-then-t-eq0 : goal.overflow_cast-result-then-t-eq0
-overflow_cast-result-then-t-eq0 c = rw (zero_is (goal.at.overflow_cast-result-then-t-eq0 c).Start)
-    (zero-whole c.args.d c.args.e c.args.g c.requires.1 (small (goal.at.overflow_cast-result-then-t-eq0 c).Start))
+pub overflow_cast-result-in-0 : goal.overflow_cast-result-in-0
+overflow_cast-result-in-0 c = rw (zero_is (goal.at.overflow_cast-result-in-0 c).Start)
+    (zero-whole c.args.d c.args.e c.args.g c.requires.1 (small (goal.at.overflow_cast-result-in-0 c).Start))
 
-pub returns-then-t-eq0 : goal.returns-then-t-eq0
+pub returns-in-0 : goal.returns-in-0
 unfolding with_sign
-returns-then-t-eq0 c = rw (zero_is (goal.at.returns-then-t-eq0 c).Start, c.if-t-eq0.true) refl
+returns-in-0 c = rw (zero_is (goal.at.returns-in-0 c).Start, c.in-0.is) refl
 
 pub overflow_add-result : goal.overflow_add-result
 overflow_add-result c =
     rw (to_z-of_z c.ranges.g, to_z-of_z c.ranges.e)
     (plus_fits c.args.d c.args.e c.args.g c.requires.1 (small (goal.at.overflow_add-result c).Start))
 
-pub overflow_cast-result-then-t-eq1 : goal.overflow_cast-result-then-t-eq1
-overflow_cast-result-then-t-eq1 c = rw (plus_is (goal.at.overflow_cast-result-then-t-eq1 c).Start)
-    (plus_whole c.args.d c.args.e c.args.g c.requires.1 (small (goal.at.overflow_cast-result-then-t-eq1 c).Start))
+pub overflow_cast-result-in-1 : goal.overflow_cast-result-in-1
+overflow_cast-result-in-1 c = rw (plus_is (goal.at.overflow_cast-result-in-1 c).Start)
+    (plus_whole c.args.d c.args.e c.args.g c.requires.1 (small (goal.at.overflow_cast-result-in-1 c).Start))
 
-pub returns-then-t-eq1 : goal.returns-then-t-eq1
+pub returns-in-1 : goal.returns-in-1
 unfolding with_sign
-returns-then-t-eq1 c = rw (plus_is (goal.at.returns-then-t-eq1 c).Start, c.if-t-eq1.true) refl
+returns-in-1 c = rw (plus_is (goal.at.returns-in-1 c).Start, c.in-1.is) refl
 
-pub overflow_sub-result-2 : goal.overflow_sub-result-2
-overflow_sub-result-2 c =
+pub overflow_sub-result-in_default : goal.overflow_sub-result-in_default
+overflow_sub-result-in_default c =
     rw (to_z-of_z c.ranges.g, to_z-of_z c.ranges.e)
-    (minus-fits c.args.d c.args.e c.args.g c.requires.1 (small (goal.at.overflow_sub-result-2 c).Start))
+    (minus-fits c.args.d c.args.e c.args.g c.requires.1 (small (goal.at.overflow_sub-result-in_default c).Start))
 
-pub overflow_cast-result-2 : goal.overflow_cast-result-2
-overflow_cast-result-2 c = rw (minus_is (goal.at.overflow_cast-result-2 c).Start)
-    (minus-whole c.args.d c.args.e c.args.g c.requires.1 (small (goal.at.overflow_cast-result-2 c).Start))
+pub overflow_cast-result-in_default : goal.overflow_cast-result-in_default
+overflow_cast-result-in_default c = rw (minus_is (goal.at.overflow_cast-result-in_default c).Start)
+    (minus-whole c.args.d c.args.e c.args.g c.requires.1 (small (goal.at.overflow_cast-result-in_default c).Start))
 
-pub returns : goal.returns
+pub returns-in_default : goal.returns-in_default
 unfolding with_sign
-returns c =
-    let e : c.args.t ≡ 2 = omega (arith, c.requires, c.if-t-eq0.false, c.if-t-eq1.false) in
-    rw (minus_is (goal.at.returns c).Start, e) refl
+returns-in_default c =
+    let e : c.args.t ≡ 2 = omega (arith, c.requires) in
+    rw (minus_is (goal.at.returns-in_default c).Start, e) refl

@@ -8,7 +8,7 @@ use lib.Seq.{length-sets}
 use Rattle.rounds.specs.Rows.{rows_with}
 use Rattle.rounds.specs.Moments.{all_split, judged}
 use Rattle.run_round_end.specs.Steps.{sign_rows}
-use Rattle.run_round_end.specs.declared.Next.TheVariants.{Rows}
+use Rattle.std.specs.Prelude.{Some}
 use Rattle.run_round_end.proofs.StepLaws.{extended_is, proper_from, Ready, ready, put-all-patterns, put-all-counts}
 use Rattle.run_round_end.proofs.judge.Goals as goal
 use Rattle.run_round_end.proofs.judge.Goals.{After-power-w, Else-not-all_split}
@@ -93,7 +93,7 @@ returns c =
     let l = length-append A (D ++ E) in
     let m = length-append D E in
     rw (r.splits, extended_is c.args.i b R es gs c.power-w.ensures) (
-      ap Rows (omega (arith, c.put_rows-zero.ensures.value, c.put_rows-plus.ensures.value, c.put_rows-minus.ensures.value, l, m)),
+      ap Some (omega (arith, c.put_rows-zero.ensures.value, c.put_rows-plus.ensures.value, c.put_rows-minus.ensures.value, l, m)),
       put-all-patterns A D E c.args.new.now _ _ _ _ _ c.put_rows-zero.ensures.value c.put_rows-plus.ensures.value
           c.put_rows-zero.ensures.after c.put_rows-plus.ensures.after c.put_rows-minus.ensures.after
           (omega (arith, l, m, r.room, c.requires.most_points_in_bounds)),

@@ -1,31 +1,26 @@
 -- `run_round_end::proper_counts` meets its contract: the counts left add up to at most what is left of 64.
-use Prim.Native.Nat.{◌-◌}
-use mathlib.Core.Path.{refl, sym, ◌∙◌}
-use native.Mathlib.Omega.{arith}
+use Rattle.std.proofs.Common.{refl, sym, ◌∙◌, arith}
 use Rattle.run_round_end.specs.Steps.{proper_counts}
 use Rattle.run_round_end.proofs.StepLaws.{counts_here, counts_zero, counts-many, counts-done}
 use Rattle.run_round_end.proofs.proper_counts.Goals as goal
+use Rattle.run_round_end.proofs.proper_counts.Goals.{then-count-eq0-via-then-count-eq0, then-count-eq0-via-else-count-eq0+then-left-count}
 
-pub loop-k-init : goal.loop-k-init
+pub loop-count-init : goal.loop-count-init
 unfolding proper_counts
-loop-k-init c = (omega arith, refl)
+loop-count-init c = refl
 
-pub returns-then-c-eq0 : goal.returns-then-c-eq0
-returns-then-c-eq0 c =
-    sym (c.loop-k.invariant.1 ∙ counts_zero c.loop-k.left c.args.counts.now c.loop-k.k (omega arith) c.if-c-eq0.true)
+pub returns-then-count-eq0 : goal.returns-then-count-eq0
+returns-then-count-eq0 c =
+    let l = c.loop-count in
+    sym (l.invariant ∙ elim c.then-count-eq0.branch [
+      | then-count-eq0-via-then-count-eq0 w ↦ counts_zero l.left c.args.counts.now l.count-index (omega arith) (omega arith)
+      | then-count-eq0-via-else-count-eq0+then-left-count w ↦ counts-many l.left c.args.counts.now l.count-index (omega arith) (omega arith)
+    ])
 
-pub returns-then-left-c : goal.returns-then-left-c
-returns-then-left-c c =
-    sym (c.loop-k.invariant.1 ∙ counts-many c.loop-k.left c.args.counts.now c.loop-k.k (omega arith) c.if-left-c.true)
-
-pub loop-k-preserved : goal.loop-k-preserved
-loop-k-preserved c =
-    let n = c.if-c-eq0.false in (
-      omega arith,
-      c.loop-k.invariant.1 ∙ counts_here c.loop-k.left c.args.counts.now c.loop-k.k (omega arith) (omega (arith, n))
-          (omega arith),
-    )
+pub loop-count-preserved : goal.loop-count-preserved
+loop-count-preserved c =
+    c.loop-count.invariant ∙ counts_here c.loop-count.left c.args.counts.now c.loop-count.count-index (omega arith) (omega arith) (omega arith)
 
 pub returns : goal.returns
 returns c =
-    sym (c.loop-k.invariant.1 ∙ counts-done c.loop-k.left c.args.counts.now c.loop-k.k (omega arith))
+    sym (c.loop-count.invariant ∙ counts-done c.loop-count.left c.args.counts.now c.loop-count.count-index (omega arith))

@@ -2,7 +2,7 @@
 use mathlib.Core.Path.{◌≡◌, refl, sym, ◌∙◌}
 use mathlib.Core.List.{◌++◌}
 use native.Mathlib.Nat.{add-zero}
-use Prim.Native.Nat.{◌+◌, ◌*◌, ◌-◌}
+use Prim.Native.Nat.{◌+◌, ◌*◌}
 use native.Mathlib.Omega.{arith}
 use lib.IntN.{pos}
 use mir.Syntax.{w16}
@@ -32,7 +32,7 @@ count_with-count-requires c =
     let j = c.loop-j.j in
     let f = splits-now c.args.patterns.now c.args.counts.now c.args.es.now c.args.gs.now j (omega arith)
     c.requires.counts_len.0 c.requires.counts_len.1
-    c.requires.counts_len.2 c.loop-j.invariant.1 in (
+    c.requires.counts_len.2 c.loop-j.invariant.0 in (
       c.requires.t_bound.0,
       omega (arith, count_at c.args.counts.now j, c.requires.counts_bound.0),
       rw (e_is (goal.at.count_with-count-requires c).After-count_with-arg-1, g_is c) f,
@@ -85,16 +85,15 @@ loop-j-preserved c =
     let T = rows_left b c.args.t c.args.patterns.now c.args.counts.now c.args.es.now c.args.gs.now c.loop-j.j in
     let e = splits (goal.at.loop-j-preserved c).After-count_with-count in
     let j = c.loop-j.j in (
-      omega arith,
       splits_later c.args.patterns.now c.args.counts.now c.args.es.now c.args.gs.now j (omega arith) c.requires.counts_len.0
           c.requires.counts_len.1
-          c.requires.counts_len.2 c.loop-j.invariant.1,
-      rw (c.put_row-next.ensures.after, length-sets) c.loop-j.invariant.2,
-      rw (c.put_row-next.ensures.numbers_after, length-sets) c.loop-j.invariant.3,
-      put-length A L T c.loop-j.next _ e c.put_row-next.ensures.value ∙ c.loop-j.invariant.4,
-      put-patterns A L T c.loop-j.new _ c.loop-j.next _ e c.put_row-next.ensures.value c.put_row-next.ensures.after ∙ c.loop-j.invariant.5,
+          c.requires.counts_len.2 c.loop-j.invariant.0,
+      rw (c.put_row-next.ensures.after, length-sets) c.loop-j.invariant.1,
+      rw (c.put_row-next.ensures.numbers_after, length-sets) c.loop-j.invariant.2,
+      put-length A L T c.loop-j.next _ e c.put_row-next.ensures.value ∙ c.loop-j.invariant.3,
+      put-patterns A L T c.loop-j.new _ c.loop-j.next _ e c.put_row-next.ensures.value c.put_row-next.ensures.after ∙ c.loop-j.invariant.4,
       put-counts A L T c.loop-j.numbers _ c.loop-j.next _ e c.put_row-next.ensures.value c.put_row-next.ensures.numbers_after
-          ∙ c.loop-j.invariant.6,
+          ∙ c.loop-j.invariant.5,
     )
 
 pub returns : goal.returns
@@ -106,7 +105,7 @@ returns c =
     (omega arith)
     in
     record {
-      value = sym (add-zero c.loop-j.next) ∙ (rw e at c.loop-j.invariant.4);
-      after = rw e at c.loop-j.invariant.5;
-      numbers_after = rw e at c.loop-j.invariant.6;
+      value = sym (add-zero c.loop-j.next) ∙ (rw e at c.loop-j.invariant.3);
+      after = rw e at c.loop-j.invariant.4;
+      numbers_after = rw e at c.loop-j.invariant.5;
     }
