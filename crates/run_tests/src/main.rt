@@ -4,7 +4,7 @@
 
 ghost use Rattle.std.specs.Prelude.{◌<◌};
 
-use determination::{Answered, Copied, Fetched};
+use determination::Answered;
 use run_record::{Run, Step};
 use std::env::Env;
 use std::io;
@@ -119,7 +119,7 @@ impl From<Step> for Given {
         match step {
             Step::Ask(p) => Given::Number(usize::from(p.0)),
             Step::Done => Given::Done,
-            Step::Refused(k) => Given::Refused(k),
+            Step::Refused(cause) => Given::Refused(cause.number()),
         }
     }
 }
@@ -127,9 +127,9 @@ impl From<Step> for Given {
 // What the item's fetch gives.
 fn fetched(item: &[u8], run: Run) -> Given {
     match determination::fetch_row(run, usize::from_be_bytes(eight(item, 5))) {
-        Fetched::Row(row) if usize::from(row.count) != pair(item, 13) => Given::Wrong,
-        Fetched::Row(row) => Given::Number(usize::from(row.pattern.0)),
-        Fetched::Refused(k) => Given::Refused(k),
+        Ok(row) if usize::from(row.count) != pair(item, 13) => Given::Wrong,
+        Ok(row) => Given::Number(usize::from(row.pattern.0)),
+        Err(cause) => Given::Refused(cause.number()),
     }
 }
 
@@ -150,8 +150,8 @@ fn copied(item: &[u8], run: Run) -> Given {
         return Given::Wrong;
     }
     match copied {
-        Copied::Rows(n) => Given::Number(n),
-        Copied::Refused(k) => Given::Refused(k),
+        Ok(n) => Given::Number(n),
+        Err(cause) => Given::Refused(cause.number()),
     }
 }
 
