@@ -1,5 +1,5 @@
 // The run (document 01, "The run"): the calls on its record, by value and lent: the start, an answer, a row fetch and a copy of all rows. The rules are
-// in the crate `runs`; the record, what it stands for in them, and an answer to its parts are in `run_record`.
+// in the crate `runs`; the record, what it stands for in them, and a start and an answer on it are in `run_record`.
 //
 // No public call has a condition: a record may hold anything, also what no start and no answer could have left. What is tested, and no more:
 // - An answer is taken by the test in `run_record`, else 7.
@@ -8,15 +8,15 @@
 // A call that gives 7 leaves the record as it was.
 #![tactic(auto)]
 
-ghost use Rattle.std.specs.Prelude.{◌≡◌, List, ℕ, ℤ};
+ghost use Rattle.std.specs.Prelude.{◌≡◌};
 ghost use Rattle.runs.specs.Run.{fetch_of, copy_of};
-ghost use Rattle.run_record.specs.Record.{is_done, run_of, state_of, step_of, AnswerGives, StartGives, StartIn};
+ghost use Rattle.run_record.specs.Record.{closed_phase, is_done, state_of, step_of, AnswerGives, StartGives, StartIn};
 ghost use Rattle.determination.specs.Served.{fetched_of, copied_of};
 
-use refusals::{MOST_POLYNOMIALS, MOST_PRODUCTS, MOST_ROWS, Refusal};
+use refusals::{MOST_PRODUCTS, MOST_ROWS, Refusal};
 use run_parts::copy_front;
-use run_record::{CLOSED, DONE, Head, RUNNING, Run, Step, Turn, answer_parts, first_head};
-use signs::{Pattern, Product};
+use run_record::{CLOSED, DONE, Run, Step};
+use signs::Pattern;
 
 // A row: a pattern and how many points have it.
 #[derive(Clone, Copy)]
@@ -32,14 +32,14 @@ pub struct Answered {
     pub step: Step,
 }
 
-// A record before the first answer.
-fn fresh(s: usize, phase: u8) -> Run
-    ensures { (result.polynomials ≡ s) × (result.phase ≡ phase) × (result.asked ≡ 0) × (result.round ≡ 0) × (result.n ≡ 0) × (result.rows ≡ 0) × (result.answered ≡ 0) }
+// A closed record for s polynomials, with no question asked.
+fn unstarted(s: usize) -> Run
+    ensures { (result.polynomials ≡ s) × (result.phase ≡ closed_phase) × (result.asked ≡ 0) × (result.round ≡ 0) × (result.n ≡ 0) × (result.rows ≡ 0) × (result.answered ≡ 0) }
 {
     Run {
         polynomials: s,
         asked: 0,
-        phase: phase,
+        phase: CLOSED,
         round: 0,
         n: 0,
         rows: 0,
@@ -56,66 +56,16 @@ fn fresh(s: usize, phase: u8) -> Run
 pub fn start(s: usize) -> Answered
     ensures { StartGives s result.run (step_of result.step) }
 {
-    if s < 1 {
-        return Answered {
-            run: fresh(s, CLOSED),
-            step: Step::Refused(Refusal::WrongCount),
-        };
-    }
-    if MOST_POLYNOMIALS < s {
-        return Answered {
-            run: fresh(s, CLOSED),
-            step: Step::Refused(Refusal::WrongCount),
-        };
-    }
-    Answered {
-        run: fresh(s, RUNNING),
-        step: Step::Ask(Product(0)),
-    }
-}
-
-// The numbers after a start for s polynomials, and the step: those of a record before the first answer, or where s is refused the same.
-fn started(head: Head, s: usize) -> Turn
-    ensures { (P C Q : List ℕ) (A : List ℤ) → StartIn (run_of head P C Q A) s (run_of result.head P C Q A) (step_of result.step) }
-{
-    let refused = Turn {
-        head: head, // as it was
-        step: Step::Refused(Refusal::WrongCount),
-    };
-    if s < 1 {
-        return refused;
-    }
-    if MOST_POLYNOMIALS < s {
-        return refused;
-    }
-    Turn {
-        head: first_head(s),
-        step: Step::Ask(Product(0)),
-    }
+    let mut run = unstarted(s);
+    let step = run.start(s);
+    Answered { run, step }
 }
 
 // Starts a run for s polynomials in the lent record. Where s is refused, 3, no run begins and the record is as it was.
 pub fn start_lent(run: &mut Run, s: usize) -> Step
     ensures { StartIn run.old s run.new (step_of result) }
 {
-    let head = Head {
-        polynomials: run.polynomials,
-        asked: run.asked,
-        phase: run.phase,
-        round: run.round,
-        n: run.n,
-        rows: run.rows,
-        answered: run.answered,
-    };
-    let turn = started(head, s);
-    run.polynomials = turn.head.polynomials;
-    run.asked = turn.head.asked;
-    run.phase = turn.head.phase;
-    run.round = turn.head.round;
-    run.n = turn.head.n;
-    run.rows = turn.head.rows;
-    run.answered = turn.head.answered;
-    turn.step
+    run.start(s)
 }
 
 // The answer a to the product asked last: the record after it, and the next product to ask, done, or a refusal. 8 for a first answer outside
@@ -124,76 +74,16 @@ pub fn start_lent(run: &mut Run, s: usize) -> Step
 pub fn answer(run: Run, a: i64) -> Answered
     ensures { AnswerGives run a result.run (step_of result.step) }
 {
-    let head = Head {
-        polynomials: run.polynomials,
-        asked: run.asked,
-        phase: run.phase,
-        round: run.round,
-        n: run.n,
-        rows: run.rows,
-        answered: run.answered,
-    };
-    let mut patterns = run.patterns;
-    let mut counts = run.counts;
-    let mut products = run.products;
-    let mut answers = run.answers;
-    let turn = answer_parts(
-        head,
-        &mut patterns,
-        &mut counts,
-        &mut products,
-        &mut answers,
-        a,
-    );
-    let after = turn.head;
-    let step = turn.step;
-    Answered {
-        run: Run {
-            polynomials: after.polynomials,
-            asked: after.asked,
-            phase: after.phase,
-            round: after.round,
-            n: after.n,
-            rows: after.rows,
-            patterns: patterns,
-            counts: counts,
-            products: products,
-            answered: after.answered,
-            answers: answers,
-        },
-        step: step,
-    }
+    let mut run = run;
+    let step = run.answer(a);
+    Answered { run, step }
 }
 
 // The same on a lent record: it is updated where it lies, and the step is returned.
 pub fn answer_lent(run: &mut Run, a: i64) -> Step
     ensures { AnswerGives run.old a run.new (step_of result) }
 {
-    let head = Head {
-        polynomials: run.polynomials,
-        asked: run.asked,
-        phase: run.phase,
-        round: run.round,
-        n: run.n,
-        rows: run.rows,
-        answered: run.answered,
-    };
-    let turn = answer_parts(
-        head,
-        &mut run.patterns,
-        &mut run.counts,
-        &mut run.products,
-        &mut run.answers,
-        a,
-    );
-    run.polynomials = turn.head.polynomials;
-    run.asked = turn.head.asked;
-    run.phase = turn.head.phase;
-    run.round = turn.head.round;
-    run.n = turn.head.n;
-    run.rows = turn.head.rows;
-    run.answered = turn.head.answered;
-    turn.step
+    run.answer(a)
 }
 
 // The same by value, through the lent entry: a local record is lent to it.
@@ -202,10 +92,7 @@ pub fn answer_through(run: Run, a: i64) -> Answered
 {
     let mut kept = run;
     let step = answer_lent(&mut kept, a);
-    Answered {
-        run: kept,
-        step: step,
-    }
+    Answered { run: kept, step }
 }
 
 // Whether the run is done, and its rows can be had: at most 64. The rows themselves are not looked at.

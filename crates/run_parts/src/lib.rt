@@ -1,52 +1,24 @@
-// Parts of a run (document 01, "The run") that need no record: the test of its numbers, the products of a round, and the rows after a round's last
-// answer. Lists stand at the front of arrays as the record has them.
+// Parts of a run (document 01, "The run") that need no record: the products of a round, and the rows after a round's last answer. Lists stand at the
+// front of arrays as the record has them.
 //
 // The functions with a `requires` are for the crate above, whose calls show it.
 #![tactic(auto)]
 
 ghost use Rattle.std.specs.Prelude.{◌≡◌, ◌&&◌, [], ◌∷◌, ◌++◌, ◌+◌, ◌*◌, ◌^◌, ◌≤◌, ◌<◌, leb, nat_abs, length, take, drop};
 ghost use Rattle.refusals.specs.Limits.{most_polynomials, most_points};
-ghost use Rattle.signs.specs.Lists.{Below, is_below};
+ghost use Rattle.signs.specs.Lists.{Below};
 ghost use Rattle.rounds.specs.Rows.{rows_with};
 ghost use Rattle.rounds.specs.RoundEnd.{round_rows};
 ghost use Rattle.run_round_end.specs.Outcome.{Left};
 ghost use Rattle.runs.specs.Run.{round_product};
-ghost use Rattle.run_parts.specs.Parts.{in_limits, Copied};
+ghost use Rattle.run_parts.specs.Parts.{Copied};
 
-use refusals::{MOST_POLYNOMIALS, MOST_PRODUCTS, MOST_ROWS};
+use refusals::MOST_ROWS;
 use run_round_end::next_rows;
-use signs::{Product, below, power};
-
-// The most points, as a record has their number.
-const MOST_POINTS: u64 = refusals::MOST_POINTS as u64;
+use signs::{Product, power};
 
 // The largest answer that counts can fit, of either sign.
 const MOST_ANSWER: u8 = refusals::MOST_POINTS as u8;
-
-// ---- tests
-
-// Whether each of the first n numbers is below the bound.
-pub fn front_below(list: &[u16], n: usize, bound: u16) -> bool
-    requires { n ≤ length list.now }
-    ensures { result ≡ is_below bound (take n list.now) }
-{
-    below(&list[..n], bound)
-}
-
-// Whether a running record's numbers are such as the calls leave.
-#[tactic(auto, using(std::proofs::lemmas::Bool::Decides::nat_tests), unfolding(crate::specs::Parts::in_limits))]
-pub fn in_limits(s: usize, asked: usize, round: usize, n: u64, rows: usize, answered: usize) -> bool
-    ensures { result ≡ in_limits s asked round n rows answered }
-{
-    if s < 1 || MOST_POLYNOMIALS < s || s < round || MOST_POINTS < n || MOST_ROWS < rows {
-        return false;
-    }
-    if round == 0 {
-        answered == 0 && asked == 0
-    } else {
-        answered < 2 * rows && asked <= MOST_PRODUCTS * round + answered
-    }
-}
 
 // ---- the products of a round
 

@@ -1,7 +1,7 @@
 -- The tests of a record: what they say, what passes them, and what the record stands for then.
 use mathlib.Core.Path.{◌≡◌, refl, sym, ap, ◌∙◌, subst}
 use mathlib.Core.Bool.{Bool, true, false, cond, ◌&&◌}
-use mathlib.Core.List.{List, []}
+use mathlib.Core.List.{[]}
 use Prim.Native.Nat.{ℕ, ◌+◌, ◌*◌, ◌-◌, ◌^◌, ◌≤◌, ◌<◌}
 use native.Mathlib.Decide.{ℕ_discrete}
 use native.Mathlib.Omega.{arith}
@@ -19,8 +19,7 @@ use Rattle.runs.specs.Run.{State, Phase, running, finished, closed, Step, ask, d
 use Rattle.runs.proofs.Steps.{answer-finished, answer-closed, not_late}
 use Rattle.run_parts.specs.Parts.{in_limits}
 use Rattle.run_record.specs.Record.{running_phase, done_phase, most_asked, is_sound, is_running, is_done, state_in, running_state}
-use Rattle.run_record.specs.Record.{run_phase, run_of, state_of, ClosedWhere, AnswerGives, started_of, StartGives}
-use Rattle.run_record.specs.declared.Head.{Head}
+use Rattle.run_record.specs.Record.{run_phase, state_of, ClosedWhere, AnswerGives, started_of, StartGives}
 use Rattle.run_record.specs.declared.Run.{Run}
 
 abbrev place : ℕ → ℕ → ℕ → ℕ → Bool
@@ -146,11 +145,6 @@ running-sound r e = both_right (eqb r.phase running_phase) (is_sound r) e
 pub running_to : (r : Run) → r.phase ≡ running_phase → is_sound r ≡ true → is_running r ≡ true
 unfolding is_running
 running_to r p e = rw (eq-eqb r.phase running_phase p, e) refl
-
--- whether a run goes on does not hang on its rows and answers
-pub running_parts : (h : Head) (P C Q : List ℕ) (A : List ℤ) → is_running (run_of h [] [] Q []) ≡ is_running (run_of h P C Q A)
-unfolding is_running is_sound
-running_parts h P C Q A = refl
 
 -- the phase gives what the record stands for
 phase_is : (r : Run) (f : Phase) → run_phase r ≡ f → state_of r ≡ state_in f r

@@ -21,26 +21,51 @@ use Rattle.run_round_end.specs.Outcome.{Left}
 use Rattle.rounds.proofs.RowLaws.{length-patterns}
 use Rattle.run_round_end.proofs.StepLaws.{length-counts}
 use Rattle.runs.specs.Run.{State, Step, ask, round_product, ended, end_round, round_step}
-use Rattle.run_record.specs.Record.{running_phase, is_sound, is_running, running_state, state_of, run_of}
-use Rattle.run_record.specs.declared.Head.{Head}
+use Rattle.run_record.specs.Record.{running_phase, is_sound, is_running, running_state, state_of}
 use Rattle.run_record.specs.declared.Run.{Run}
 use Rattle.runs.proofs.Held.{with_patterns, with_own, stored, below_all}
 use Rattle.run_record.proofs.Records.{later_from, sound_below, sound_to, limits_to, running_is, running_to, running_phase_lem}
 use Rattle.run_record.proofs.Records.{running-sound}
 use Rattle.std.specs.Prelude.{Option as Found, Some, None}
 
--- the numbers as the code leaves them after an answer to a run that goes on
-abbrev counted : Head → ℕ → ℕ → ℕ → ℕ → Head
-counted h round points rows answered =
+-- a record as the code leaves it after an answer to a run that goes on: one more question, and what it puts in place of the rest
+abbrev pub counted : Run → (round points rows : ℕ) → (products : List ℕ) → (answered : ℕ) → (answers : List ℤ) → Run
+counted r round points rows Q k A =
     record {
-      polynomials = h.polynomials;
-      asked = h.asked + 1;
-      phase = h.phase;
+      polynomials = r.polynomials;
+      asked = r.asked + 1;
+      phase = r.phase;
       round = round;
       n = points;
       rows = rows;
-      answered = answered;
+      patterns = r.patterns;
+      counts = r.counts;
+      products = Q;
+      answered = k;
+      answers = A;
     }
+
+-- and with other rows in its arrays
+abbrev pub with_rows : Run → List ℕ → List ℕ → Run
+with_rows r P C =
+    record {
+      polynomials = r.polynomials;
+      asked = r.asked;
+      phase = r.phase;
+      round = r.round;
+      n = r.n;
+      rows = r.rows;
+      patterns = P;
+      counts = C;
+      products = r.products;
+      answered = r.answered;
+      answers = r.answers;
+    }
+
+-- whether a run goes on does not hang on its rows
+pub running_with : (r : Run) (P C : List ℕ) → is_running r ≡ is_running (with_rows r P C)
+unfolding is_running is_sound
+running_with r P C = refl
 
 -- ---- the round goes on
 
@@ -53,33 +78,30 @@ narrow (negsuc n) h = record { sfits = omega (arith, h) }
 pub stored_length : (l : List ℤ) (k : ℕ) (z : ℤ) → k ≤ length l → length (take k l ++ (z ∷ [])) ≡ k + 1
 stored_length l k z h = omega (arith, length-append (take k l) (z ∷ []), length-take-le k l h)
 
-module _ (h : Head) (P C Q : List ℕ) (A : List ℤ) (a : ℤ) (few : length A ≡ 128) (e : is_running (run_of h P C Q A) ≡ true)
-    (later : 0 < h.round) (more : h.answered + 1 < 2 * h.rows) where
-  abbrev before : Run
-  before = run_of h P C Q A
-
+module _ (r : Run) (a : ℤ) (few : length r.answers ≡ 128) (e : is_running r ≡ true) (later : 0 < r.round)
+    (more : r.answered + 1 < 2 * r.rows) where
   abbrev gone_on : Run
-  gone_on = run_of (counted h h.round h.n h.rows (h.answered + 1)) P C Q (set A h.answered a)
+  gone_on = counted r r.round r.n r.rows r.products (r.answered + 1) (set r.answers r.answered a)
 
   went_sound : is_sound gone_on ≡ true
   went_sound =
-      let k = later_from before e later in
+      let k = later_from r e later in
       sound_to gone_on later
-      (limits_to h.polynomials (h.asked + 1) h.round h.n h.rows (h.answered + 1) later k.rounds k.most k.few_points
+      (limits_to r.polynomials (r.asked + 1) r.round r.n r.rows (r.answered + 1) later k.rounds k.most k.few_points
       k.few_rows more (omega arith))
-      (sound_below before (running-sound before e) later)
+      (sound_below r (running-sound r e) later)
 
-  pub went_on : (p : ℕ) → p ≡ round_product (h.round - 1) (take h.rows Q) (h.answered + 1)
+  pub went_on : (p : ℕ) → p ≡ round_product (r.round - 1) (take r.rows r.products) (r.answered + 1)
       → ◌≡◌ {A = State × Step} (state_of gone_on, ask p)
-      (round_step round_rows (running_state before) (h.round - 1) (take h.answered A ++ (a ∷ [])) true)
+      (round_step round_rows (running_state r) (r.round - 1) (take r.answered r.answers ++ (a ∷ [])) true)
   went_on p q =
-      let k = later_from before e later in
-      let g : h.answered < length A = omega arith in
-      let e₀ = running_is gone_on (running_to gone_on (running_phase_lem before e) went_sound) in
-      let e₁ = add-one h.asked in
-      let e₂ : h.round ≡ suc (h.round - 1) = omega arith in
-      let e₃ = stored A h.answered a g in
-      let e₄ = stored_length A h.answered a (omega arith) in
+      let k = later_from r e later in
+      let g : r.answered < length r.answers = omega arith in
+      let e₀ = running_is gone_on (running_to gone_on (running_phase_lem r e) went_sound) in
+      let e₁ = add-one r.asked in
+      let e₂ : r.round ≡ suc (r.round - 1) = omega arith in
+      let e₃ = stored r.answers r.answered a g in
+      let e₄ = stored_length r.answers r.answered a (omega arith) in
       rw e₀ (cc)
 
 -- ---- the first answer: one row
@@ -99,43 +121,42 @@ first-row P C (suc n) g h e = rw (first-front P 0 g, first-front C (suc n) h) re
 pub list_below : (i : ℕ) (L A : List ℕ) → L ≡ adapted i A → Below (3 ^ i) L
 list_below i L A e = rw e (below_all (3 ^ i) (adapted i A) (λ α g. adapted_below i α A g))
 
-module _ (h : Head) (i points rows : ℕ) (P C Q Q' : List ℕ) (A : List ℤ) (nP : length P ≡ 64) (nC : length C ≡ 64)
-    (going : h.phase ≡ running_phase) (before : i < h.polynomials)
-    (most : h.polynomials ≤ 8) (few_points : points ≤ 64) (few_asked : h.asked < 128 * suc i) (some-rows : 0 < rows)
+module _ (r : Run) (i points rows : ℕ) (Q' : List ℕ) (nP : length r.patterns ≡ 64) (nC : length r.counts ≡ 64)
+    (going : r.phase ≡ running_phase) (before : i < r.polynomials)
+    (most : r.polynomials ≤ 8) (few_points : points ≤ 64) (few_asked : r.asked < 128 * suc i) (some-rows : 0 < rows)
     (few_rows : rows ≤ 64)
-    (list : take rows Q' ≡ adapted i (take rows P)) where
+    (list : take rows Q' ≡ adapted i (take rows r.patterns)) where
   abbrev begun_run : Run
-  begun_run = run_of (counted h (i + 1) points rows 0) P C Q' A
+  begun_run = counted r (i + 1) points rows Q' 0 r.answers
 
   begun-sound : is_sound begun_run ≡ true
   begun-sound =
       let e : i + 1 - 1 ≡ i = omega arith in
       sound_to begun_run (omega arith)
-      (limits_to h.polynomials (h.asked + 1) (i + 1) points rows 0 (omega arith) (omega arith) most few_points few_rows
+      (limits_to r.polynomials (r.asked + 1) (i + 1) points rows 0 (omega arith) (omega arith) most few_points few_rows
       (omega arith) (omega arith))
       (subst (λ (j : ℕ). Below (3 ^ j) (take rows Q')) (sym e) (list_below i _ _ list))
 
   pub begun : (p : ℕ) → p ≡ round_product i (take rows Q') 0
       → ◌≡◌ {A = State × Step} (state_of begun_run, ask p)
-      (ended round_rows (running_state (run_of h P C Q A)) i points (rows_with (take rows P) (take rows C)) false)
+      (ended round_rows (running_state r) i points (rows_with (take rows r.patterns) (take rows r.counts)) false)
   begun p q =
       let e₀ = running_is begun_run (running_to begun_run going begun-sound) in
-      let e₁ = add-one h.asked in
+      let e₁ = add-one r.asked in
       let e₂ = add-one i in
-      let l₁ = length-take-le rows P (omega arith) in
-      let l₂ = length-take-le rows C (omega arith) in
-      let e₃ = with_patterns (take rows P) (take rows C) (l₁ ∙ sym l₂) in
-      let e₄ : take rows Q' ≡ adapted i (patterns (rows_with (take rows P) (take rows C))) = cc in
+      let l₁ = length-take-le rows r.patterns (omega arith) in
+      let l₂ = length-take-le rows r.counts (omega arith) in
+      let e₃ = with_patterns (take rows r.patterns) (take rows r.counts) (l₁ ∙ sym l₂) in
+      let e₄ : take rows Q' ≡ adapted i (patterns (rows_with (take rows r.patterns) (take rows r.counts))) = cc in
       rw e₀ (cc)
 
 -- where a round ends with rows, the numbers before it are all that counts
-pub ends-alike : (h : Head) (P C Q : List ℕ) (A : List ℤ) (P' C' Q' : List ℕ) (A' : List ℤ) (i : ℕ) (R : List Row)
-    → end_round round_rows (running_state (run_of h P C Q A)) i (some R) ≡ end_round round_rows (running_state (run_of h P' C' Q' A')) i
-    (some R)
-ends-alike h P C Q A P' C' Q' A' i R = go (eqb (suc i) h.polynomials)
+pub ends-alike : (r : Run) (P C : List ℕ) (i : ℕ) (R : List Row)
+    → end_round round_rows (running_state (with_rows r P C)) i (some R) ≡ end_round round_rows (running_state r) i (some R)
+ends-alike r P C i R = go (eqb (suc i) r.polynomials)
   where
-    go : (b : Bool) → ended round_rows (running_state (run_of h P C Q A)) (suc i) h.n R b
-        ≡ ended round_rows (running_state (run_of h P' C' Q' A')) (suc i) h.n R b
+    go : (b : Bool) → ended round_rows (running_state (with_rows r P C)) (suc i) r.n R b
+        ≡ ended round_rows (running_state r) (suc i) r.n R b
     go true = refl
     go false = refl
 

@@ -25,7 +25,7 @@
 --   started_of s                 == the record that a start for s polynomials gives, and the step: 3 outside 1 .. 8
 --   StartGives s run step       == what a start for s polynomials promises of the record run and of the step
 --   StartIn run s run' step     == what a start for s in the lent record run promises of the record run' after it and of the step
-use Rattle.std.specs.Prelude.{◌≡◌, Bool, true, cond, ◌&&◌, List, [], ◌∷◌, ◌++◌, ℕ, suc, ◌+◌, ◌*◌, ◌-◌, ◌^◌, ◌≤◌, eqb, leb, ℤ, take}
+use Rattle.std.specs.Prelude.{◌≡◌, Bool, true, cond, ◌&&◌, List, [], ◌∷◌, ◌++◌, ℕ, suc, ◌*◌, ◌-◌, ◌^◌, ◌≤◌, eqb, leb, ℤ, take}
 use Rattle.refusals.specs.Numbers.{late, wrong_count, is_among, closing_numbers}
 use Rattle.refusals.specs.Refusals.{number_of}
 use Rattle.refusals.specs.Limits.{most_points, most_polynomials}

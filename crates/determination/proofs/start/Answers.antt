@@ -1,41 +1,39 @@
--- `determination::start` meets its contract.
+-- `determination::start` meets its contract: the record begun, or the closed one as it was.
 use mathlib.Core.Path.{◌≡◌}
-use Prim.Native.Nat.{ℕ}
+use Prim.Native.Nat.{ℕ, ◌≤◌}
+use native.Mathlib.Decide.{dec_le}
+use native.Mathlib.Omega.{arith}
 use borrow.Author.Tests.{le-leb, lt-leb}
-use Rattle.run_record.specs.Record.{closed_phase, IsClosed, started_of}
+use Rattle.refusals.specs.Numbers.{wrong_count}
+use Rattle.runs.specs.Run.{State, Step, refused}
+use Rattle.run_record.specs.Record.{closed_phase, state_of, started_of, StartGives, StartIn}
 use Rattle.run_record.specs.declared.Run.{Run}
-use Rattle.run_record.proofs.Records.{first_gives, closed-phase}
+use Rattle.run_record.proofs.Records.{closed-phase}
 use Rattle.determination.proofs.start.Goals as goal
 
-fresh_closed : (r : Run) {s : ℕ}
-    → (r.polynomials ≡ s) × (r.phase ≡ closed_phase) × (r.asked ≡ 0) × (r.round ≡ 0) × (r.n ≡ 0) × (r.rows ≡ 0) × (r.answered ≡ 0)
-    → IsClosed r
-fresh_closed r k = record { phase = k.1; no_rows = k.5; no_answers = k.6 }
+module _ (r : Run) (s : ℕ)
+    (k : (r.polynomials ≡ s) × (r.phase ≡ closed_phase) × (r.asked ≡ 0) × (r.round ≡ 0) × (r.n ≡ 0) × (r.rows ≡ 0) × (r.answered ≡ 0)) where
+  -- a start that is refused
+  refused_gives : ((1 ≤ s) × (s ≤ 8) → ⊥) → StartGives s r (refused wrong_count)
+  unfolding started_of
+  refused_gives h =
+      record { by_rules = go (dec_le 1 s) (dec_le s 8); closes = λ j _. record { phase = k.1; no_rows = k.5; no_answers = k.6 } }
+    where
+      go : Dec (1 ≤ s) → Dec (s ≤ 8) → ◌≡◌ {A = State × Step} (state_of r, refused wrong_count) (started_of s)
+      go (yes a) (yes b) = absurd (h (a, b))
+      go (yes a) (no b) = rw (le-leb 1 s a, lt-leb s 8 (omega arith), closed-phase r k.1) (cc)
+      go (no a) b = rw (lt-leb 1 s (omega arith), closed-phase r k.1) (cc)
 
-pub returns-then-s-lt1 : goal.returns-then-s-lt1
-unfolding started_of
-returns-then-s-lt1 c =
-    let r = c.fresh.result in
-    let s = c.args.s in
-    let e = closed-phase r c.fresh.ensures.1 in
-    record { by_rules = rw (lt-leb 1 s c.if-s-lt1.true, e) (cc); closes = λ k _. fresh_closed r c.fresh.ensures }
+  pub started : (r' : Run) (x : Step) → StartIn r s r' x → StartGives s r' x
+  started r' x g = go (dec_le 1 s) (dec_le s 8)
+    where
+      refuses : ((1 ≤ s) × (s ≤ 8) → ⊥) → StartGives s r' x
+      refuses h = rw ((g.refuses h).0, (g.refuses h).1) (refused_gives h)
 
-pub returns-then-s-gt-MOST_POLYNOMIALS : goal.returns-then-s-gt-MOST_POLYNOMIALS
-unfolding started_of
-returns-then-s-gt-MOST_POLYNOMIALS c =
-    let r = c.fresh-then-s-gt-MOST_POLYNOMIALS.result in
-    let s = c.args.s in
-    let e = closed-phase r c.fresh-then-s-gt-MOST_POLYNOMIALS.ensures.1 in
-    record {
-      by_rules = rw (le-leb 1 s c.if-s-lt1.false, lt-leb s 8 c.if-s-gt-MOST_POLYNOMIALS.true, e) (cc);
-      closes = λ k _. fresh_closed r c.fresh-then-s-gt-MOST_POLYNOMIALS.ensures;
-    }
+      go : Dec (1 ≤ s) → Dec (s ≤ 8) → StartGives s r' x
+      go (yes a) (yes b) = g.begins a b
+      go (yes a) (no b) = refuses (λ h. b h.1)
+      go (no a) b = refuses (λ h. a h.0)
 
 pub returns : goal.returns
-returns c =
-    let r = c.fresh-2.result in
-    let s = c.args.s in
-    let k = c.fresh-2.ensures in
-    let g = c.if-s-lt1.false in
-    let h = c.if-s-gt-MOST_POLYNOMIALS.false in
-    first_gives r s g h k.0 k.1 k.2 k.3 k.4 k.5 k.6
+returns c = started _ c.args.s c.unstarted-run.ensures _ _ c.start-step.ensures

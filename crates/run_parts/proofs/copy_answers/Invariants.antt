@@ -1,6 +1,4 @@
 -- `run_parts::copy_answers` meets its contract: the answers passed are copied, and the flag says whether they are small.
-use Prim.Native.Nat.{◌-◌}
-use lib.ListN.{length}
 use Rattle.integers.proofs.Stores.{Copying}
 use Rattle.run_parts.proofs.AnswerLaws.{Told}
 use Rattle.run_parts.proofs.copy_answers.Given as goal

@@ -1,9 +1,9 @@
--- `run_record::close` meets its contract.
+-- `Run::close` meets its contract.
 use mathlib.Core.Path.{refl}
 use native.Mathlib.Numerals.{add-one}
 use Rattle.run_record.specs.Record.{state_of, run_phase, is_running, is_done}
-use Rattle.run_record.proofs.close.Goals as goal
+use Rattle.run_record.proofs.Run.close.Goals as goal
 
 pub returns : goal.returns
 unfolding state_of run_phase is_running is_done
-returns c P C Q A = (rw (add-one) refl, record { phase = refl; no_rows = refl; no_answers = refl })
+returns c = (rw (add-one) refl, record { phase = refl; no_rows = refl; no_answers = refl })
