@@ -64,7 +64,7 @@ impl Run {
 
     // Whether a running record's numbers are such as the calls leave.
     #[tactic(auto, using(std::proofs::lemmas::Bool::Decides::nat_tests), unfolding(run_parts::specs::Parts::in_limits))]
-    pub fn in_limits(&self) -> bool
+    fn in_limits(&self) -> bool
         ensures { result ≡ in_limits self.now.polynomials self.now.asked self.now.round self.now.n self.now.rows self.now.answered }
     {
         let s = self.polynomials;
