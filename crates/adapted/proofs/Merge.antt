@@ -1,27 +1,46 @@
 -- The blocks of a rising list, and the elements chosen by their marks.
-use mathlib.Core.Path.{◌≡◌, refl, ap}
+use Rattle.std.specs.Prelude.{Option, Some, None, unwrap_or}
+use Rattle.std.specs.List.{position_or_len}
+use Rattle.std.proofs.lemmas.List.Recursion.{is_position_or_len}
+use mathlib.Core.Path.{◌≡◌, refl, sym, ap}
 use mathlib.Core.Bool.{Bool, true, false, cond}
 use mathlib.Core.List.{List, [], ◌∷◌, ◌++◌}
-use Prim.Native.Nat.{ℕ, zero, suc, ◌+◌, ◌<◌, ◌≤◌}
+use Prim.Native.Nat.{ℕ, suc, ◌+◌, ◌<◌, ◌≤◌}
 use native.Mathlib.Omega.{arith}
 use native.Mathlib.Numerals.{add-one}
-use borrow.Author.Tests.{le-leb, lt-leb}
-use lib.Dec.{leb}
+use native.Mathlib.Decide.{dec_lt}
+use borrow.Author.Tests.{lt-ltb, le-ltb}
+use lib.Dec.{leb, ltb}
 use lib.ListN.{length, get_or, take, length-take}
 use lib.Seq.{take-suc}
 use Rattle.adapted.specs.Split.{leading, chosen, count_of}
 
 -- ---- the blocks
 
--- a place with smaller elements before it and none behind is where the rest begins
-pub leading_at : (b : ℕ) (l : List ℕ) (k : ℕ) → k ≤ length l → ((j : ℕ) → j < k → get_or l j 0 < b) → (k < length l → b ≤ get_or l k 0)
-    → k ≡ leading b l
+leading-le : (b : ℕ) (l : List ℕ) → leading b l ≤ length l
 unfolding leading
-leading_at b [] k h f g = omega arith
-leading_at b (x ∷ l) zero h f g = rw (le-leb b x (g (omega arith))) refl
-leading_at b (x ∷ l) (suc k) h f g =
-    rw (lt-leb b x (f 0 (omega arith)))
-    (ap suc (leading_at b l k (omega arith) (λ j i. f (suc j) (omega arith)) (λ i. g (omega arith))))
+leading-le b [] = omega arith
+leading-le b (x ∷ l) = go (leb b x) (leading-le b l)
+  where
+    go : (t : Bool) → leading b l ≤ length l → cond t 0 (suc (leading b l)) ≤ suc (length l)
+    go true h = omega arith
+    go false h = omega arith
+
+-- the place where the rest begins is the first that `position` finds, or the length
+pub leading_found : (b : ℕ) (l : List ℕ) (r : Option ℕ)
+    → r ≡ cond (ltb (position_or_len (leb b) l) (length l)) (Some (position_or_len (leb b) l)) None → unwrap_or r (length l) ≡ leading b l
+unfolding leading
+leading_found b l r e =
+    let k : position_or_len (leb b) l ≡ leading b l =
+    sym (is_position_or_len (leading b) (leb b) refl (λ x xs. ap (cond (leb b x) 0) (one_more (leading b xs))) l) in
+    rw (e, k) (go (dec_lt (leading b l) (length l)))
+  where
+    one_more : (n : ℕ) → suc n ≡ 1 + n
+    one_more n = omega arith
+
+    go : Dec (leading b l < length l) → unwrap_or (cond (ltb (leading b l) (length l)) (Some (leading b l)) None) (length l) ≡ leading b l
+    go (yes h) = rw (lt-ltb _ _ h) refl
+    go (no h) = rw (le-ltb (leading b l) (length l) (omega arith)) (omega (arith, leading-le b l))
 
 -- ---- marks
 

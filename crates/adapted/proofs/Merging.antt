@@ -1,15 +1,15 @@
 -- The merge of the three blocks of a rising list: the state of one block, one turn, and what is left at the end.
 use mathlib.Core.Path.{◌≡◌, refl, sym, ap, ◌∙◌, subst}
 use mathlib.Core.Bool.{Bool, true, false, cond}
-use mathlib.Core.Logic.{◌≢◌, ◌⊎◌, inl, inr}
-use mathlib.Core.List.{List, [], ◌∷◌, ◌++◌}
+use mathlib.Core.Logic.{◌⊎◌, inl, inr}
+use mathlib.Core.List.{List, [], ◌∷◌}
 use Prim.Native.Nat.{ℕ, zero, suc, ◌+◌, ◌*◌, ◌-◌, ◌%◌, ◌<◌, ◌≤◌, min}
 use native.Mathlib.Omega.{arith}
 use native.Mathlib.Decide.{ℕ_discrete, dec_lt}
-use native.Mathlib.Nat.{add-zero, zero-add, mod-eq_of_lt}
+use native.Mathlib.Nat.{add-zero, zero-add}
 use native.Mathlib.Numerals.{add-one}
 use borrow.Author.Tests.{lt-ltb, le-ltb, le-leb, lt-leb, eqb-true}
-use lib.Dec.{eqb, ltb, leb}
+use lib.Dec.{eqb, leb}
 use lib.Arith.{digits_mod}
 use lib.ListN.{length, get_or, take, set, length-set, length-take}
 use lib.Seq.{take-suc-set, get_or-take, get_or-set_same, get_or-set_other}
@@ -19,7 +19,7 @@ use Rattle.signs.specs.Bits.{bit_of}
 use Rattle.adapted.specs.Split.{leading, head_of, marks_of, Split}
 use Rattle.signs.proofs.Lists.{times-nil, times-one}
 use Rattle.signs.proofs.Size.{rising-append}
-use Rattle.signs.proofs.Positions.{below_at, stands_at, place_of, rising-at}
+use Rattle.signs.proofs.Positions.{stands_at, place_of, rising-at}
 
 -- ---- blocks
 

@@ -1,27 +1,11 @@
--- How many signs a mark has, and lists written one after the other.
-use mathlib.Core.Path.{◌≡◌, refl, sym, ◌∙◌}
+-- Lists written one after the other.
+use mathlib.Core.Path.{◌≡◌, sym, ◌∙◌}
 use mathlib.Core.List.{List, [], ◌∷◌, ◌++◌}
-use Prim.Native.Nat.{ℕ, zero, suc, ◌+◌, ◌≤◌, ◌<◌}
+use Prim.Native.Nat.{ℕ, suc, ◌+◌, ◌≤◌}
 use native.Mathlib.Omega.{arith}
 use native.Mathlib.Nat.{add-zero, add-suc, suc-add, zero-add}
 use lib.ListN.{length, set, take}
 use lib.Seq.{sets, sets-eq, take_at}
-use Rattle.adapted.specs.Split.{count_of}
-
--- a mark of other signs than none, one or three has two
-pub two_signs : (m : ℕ) → m < 8 → (m ≡ 0 → ⊥) → (m ≡ 1 → ⊥) → (m ≡ 2 → ⊥) → (m ≡ 4 → ⊥) → (m ≡ 7 → ⊥) → count_of m ≡ 2
-unfolding count_of
-two_signs zero h a b c d e = absurd (a refl)
-two_signs (suc zero) h a b c d e = absurd (b refl)
-two_signs (suc (suc zero)) h a b c d e = absurd (c refl)
-two_signs (suc (suc (suc zero))) h a b c d e = refl
-two_signs (suc (suc (suc (suc zero)))) h a b c d e = absurd (d refl)
-two_signs (suc (suc (suc (suc (suc zero))))) h a b c d e = refl
-two_signs (suc (suc (suc (suc (suc (suc zero)))))) h a b c d e = refl
-two_signs (suc (suc (suc (suc (suc (suc (suc zero))))))) h a b c d e = absurd (e refl)
-two_signs (suc (suc (suc (suc (suc (suc (suc (suc m)))))))) h a b c d e = absurd (omega arith)
-
--- ---- lists written one after the other
 
 pub sets_append : {A : Type 0} (xs ys l : List A) (i : ℕ) → sets l i (xs ++ ys) ≡ sets (sets l i xs) (i + length xs) ys
 sets_append [] ys l i = rw add-zero

@@ -9,7 +9,7 @@
 --   parts_of i l m           == the three parts of an adapted list, from the patterns l of i polynomials that are left, with their marks m
 --   Split w L n low mark at == what the merge of L leaves: the n patterns left, their marks, and for each element of L the place of its low
 --                              part
-use Rattle.std.specs.Prelude.{cond, ◌≡◌, List, [], ◌∷◌, ◌++◌, ℕ, zero, suc, ◌+◌, ◌*◌, ◌-◌, ◌/◌, ◌%◌, ◌^◌, ◌<◌, ◌≤◌, min, leb, ltb, length}
+use Rattle.std.specs.Prelude.{cond, ◌≡◌, List, [], ◌∷◌, ◌++◌, ℕ, suc, ◌+◌, ◌*◌, ◌-◌, ◌/◌, ◌%◌, ◌^◌, ◌<◌, ◌≤◌, min, leb, ltb, length}
 use Rattle.std.specs.Prelude.{get_or, take}
 use Rattle.signs.specs.Lists.{times, Rising, shift}
 use Rattle.signs.specs.Adapted.{adapted}

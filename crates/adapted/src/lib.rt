@@ -19,14 +19,7 @@ use signs::{bit, power};
 fn leading_count(l: &[u16], bound: u16) -> usize
     ensures { result ≡ leading bound l.now }
 {
-    let mut k = 0;
-    while k < l.len() {
-        if bound <= l[k] {
-            return k;
-        }
-        k += 1;
-    }
-    k
+    l.iter().position(|x| bound <= *x).unwrap_or(l.len())
 }
 
 // The low part of the element at k where k is before the end, else w, which is above every low part.
@@ -40,11 +33,7 @@ fn head(l: &[u16], k: usize, end: usize, base: u16, w: u16) -> u16
 fn least(x: u16, y: u16, z: u16) -> u16
     ensures { result ≡ min x (min y z) }
 {
-    let mut q = z;
-    if y < q {
-        q = y;
-    }
-    if x < q { x } else { q }
+    x.min(y.min(z))
 }
 
 // The signs that q stands with, where x, y and z are the next low parts with the signs 0, + and −: bits 0, 1 and 2.
@@ -62,9 +51,10 @@ fn advance(at: &mut [u8], k: usize, x: u16, q: u16, n: usize) -> usize
 {
     if x == q {
         at[k] = n as u8;
-        return k + 1;
+        k + 1
+    } else {
+        k
     }
-    k
 }
 
 // Takes the last polynomial, whose digit weighs w, off the rising list l, by merging its three blocks. Writes the patterns left to low, rising,
@@ -102,14 +92,7 @@ pub fn count(m: u8) -> usize
     requires { m < 8 }
     ensures { result ≡ count_of m }
 {
-    match m {
-        0 => 0,
-        1 => 1,
-        2 => 1,
-        4 => 1,
-        7 => 3,
-        _ => 2,
-    }
+    m.count_ones() as usize
 }
 
 // Writes q to out at n where its mark has at least k signs. Returns where the next one goes.
@@ -120,9 +103,10 @@ fn choose(q: u16, m: u8, k: usize, out: &mut [u16], n: usize) -> usize
 {
     if k <= count(m) {
         out[n] = q;
-        return n + 1;
+        n + 1
+    } else {
+        n
     }
-    n
 }
 
 // Writes to out those of low whose mark has at least k signs. Returns how many.
@@ -132,10 +116,8 @@ pub fn having(low: &[u16], mark: &[u8], k: usize, out: &mut [u16]) -> usize
     ensures out_after { out.new ≡ sets out.old 0 (chosen k low.now mark.now) }
 {
     let mut n = 0;
-    let mut j = 0;
-    while j < low.len() {
-        n = choose(low[j], mark[j], k, out, n);
-        j += 1;
+    for (q, m) in low.iter().zip(mark) {
+        n = choose(*q, *m, k, out, n);
     }
     n
 }
@@ -150,14 +132,14 @@ pub fn adapted(l: &[u16], i: usize, b: u16, out: &mut [u16], at: usize) -> usize
     ensures value { result ≡ at + length l.now }
     ensures out_after { out.new ≡ sets out.old at (shift b (adapted_of i l.now)) }
 {
-    if l.len() == 0 {
-        return at;
+    match l.len() {
+        0 => at,
+        1 => {
+            out[at] = b;
+            at + 1
+        }
+        _ => adapted_split(l, i - 1, b, out, at),
     }
-    if l.len() == 1 {
-        out[at] = b;
-        return at + 1;
-    }
-    adapted_split(l, i - 1, b, out, at)
 }
 
 // The same for at least two patterns of i + 1 polynomials.

@@ -8,33 +8,33 @@ use Rattle.adapted.proofs.+adapting.Goals as goal
 
 -- ---- adapted
 
-pub adapted-returns-then-l-eq0-clause-out_after : goal.adapted-returns-then-l-eq0-clause-out_after
-adapted-returns-then-l-eq0-clause-out_after t c =
+pub adapted-returns-in-0-clause-out_after : goal.adapted-returns-in-0-clause-out_after
+adapted-returns-in-0-clause-out_after t c =
     let a = c.args in
-    written_none a.i a.b a.at a.l.now a.out.now c.if-l-eq0.true
+    written_none a.i a.b a.at a.l.now a.out.now c.in-0.is
 
-pub adapted-returns-then-l-eq1-clause-out_after : goal.adapted-returns-then-l-eq1-clause-out_after
-adapted-returns-then-l-eq1-clause-out_after t c =
+pub adapted-returns-in-1-clause-out_after : goal.adapted-returns-in-1-clause-out_after
+adapted-returns-in-1-clause-out_after t c =
     let a = c.args in
-    written_one a.i a.b a.at a.l.now a.out.now c.requires.rising.1 c.if-l-eq1.true
+    written_one a.i a.b a.at a.l.now a.out.now c.requires.rising.1 c.in-1.is
 
 -- at least two patterns: there is a polynomial to take off
 pub adapted-overflow_sub-i : goal.adapted-overflow_sub-i
 adapted-overflow_sub-i t c =
-    some_polynomial c.args.i c.args.l.now c.requires.rising.0 c.requires.rising.1 c.if-l-eq0.false c.if-l-eq1.false
+    some_polynomial c.args.i c.args.l.now c.requires.rising.0 c.requires.rising.1 (λ e. omega arith) (λ e. omega arith)
 
 pub adapted-adapted_split-requires : goal.adapted-adapted_split-requires
 adapted-adapted_split-requires t c =
-    let h : 1 ≤ c.args.i = some_polynomial c.args.i c.args.l.now c.requires.rising.0 c.requires.rising.1 c.if-l-eq0.false c.if-l-eq1.false
+    let h : 1 ≤ c.args.i = some_polynomial c.args.i c.args.l.now c.requires.rising.0 c.requires.rising.1 (λ e. omega arith) (λ e. omega arith)
     in
     let e : suc (c.args.i - 1) ≡ c.args.i = omega arith in (
       omega arith,
       ((omega arith, rw e c.requires.i_le_most_polynomials.1), ((c.requires.rising.0, rw e c.requires.rising.1), c.requires.l_len_bound)),
     )
 
-pub adapted-returns-clause-out_after : goal.adapted-returns-clause-out_after
-adapted-returns-clause-out_after t c =
-    let h : 1 ≤ c.args.i = some_polynomial c.args.i c.args.l.now c.requires.rising.0 c.requires.rising.1 c.if-l-eq0.false c.if-l-eq1.false
+pub adapted-returns-in_default-clause-out_after : goal.adapted-returns-in_default-clause-out_after
+adapted-returns-in_default-clause-out_after t c =
+    let h : 1 ≤ c.args.i = some_polynomial c.args.i c.args.l.now c.requires.rising.0 c.requires.rising.1 (λ e. omega arith) (λ e. omega arith)
     in
     let e : suc (c.args.i - 1) ≡ c.args.i = omega arith in
     rw e at c.adapted_split.ensures.out_after

@@ -23,9 +23,9 @@ returns-then-k-count c =
       out_after = rw (at_least _ _ _ c.count.ensures c.if-k-count.true) refl;
     }
 
-pub returns : goal.returns
+pub returns-else-k-count : goal.returns-else-k-count
 unfolding chosen
-returns c =
+returns-else-k-count c =
     record {
       value = rw (fewer _ _ _ c.count.ensures c.if-k-count.false) (sym (add-zero _));
       out_after = rw (fewer _ _ _ c.count.ensures c.if-k-count.false) refl;

@@ -1,11 +1,13 @@
 -- `adapted::leading_count` meets its contract: the elements passed are below the bound.
-use Prim.Native.Nat.{◌-◌}
-use native.Mathlib.Omega.{arith}
-use Rattle.adapted.proofs.Merge.{leading_at}
+use Rattle.std.proofs.Common.{rules, tests}
+use lib.Dec.{leb}
+use Rattle.std.proofs.lemmas.Iterator.{YieldsList-from_slice}
+use Rattle.std.proofs.lemmas.Iterator.Search.{position_from_yields_List}
+use mathlib.Core.Path.{◌∙◌}
+use Rattle.adapted.proofs.Merge.{leading_found}
 use Rattle.adapted.proofs.leading_count.Goals as goal
 
-pub returns-then-bound-l : goal.returns-then-bound-l
-returns-then-bound-l c = leading_at _ _ _ (omega arith) c.loop-k.invariant.1 (λ _. c.if-bound-l.true)
-
 pub returns : goal.returns
-returns c = leading_at _ _ _ (omega arith) c.loop-k.invariant.1 (λ h. absurd (omega arith))
+returns c =
+    let p = position_from_yields_List (leb c.args.bound) _ _ c.position.result c.position.ensures.ran (YieldsList-from_slice c.args.l.now cc) (λ x b q k. search (rules, tests)) in
+    c.unwrap_or.ensures ∙ leading_found _ _ _ p

@@ -1,5 +1,5 @@
 -- `adapted::split` meets its contract: each turn takes the smallest low part that is left.
-use Prim.Native.Nat.{suc, ◌≤◌, ◌<◌, ◌-◌, ◌*◌}
+use Prim.Native.Nat.{suc, ◌≤◌, ◌<◌, ◌*◌}
 use mathlib.Core.Path.{◌≡◌, refl, ◌∙◌}
 use native.Mathlib.Omega.{arith}
 use lib.ListN.{length, length-set}
