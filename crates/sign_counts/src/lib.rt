@@ -5,7 +5,7 @@ ghost use Rattle.std.specs.Prelude.{◌≡◌};
 ghost use Rattle.sign_counts.specs.Counts.{panel_number};
 
 // At how many points a product is positive, negative and 0.
-#[derive(Clone, Copy)]
+#[derive(Clone, Copy, Debug, PartialEq, Eq)]
 pub struct SignCounts {
     pub positive: u16,
     pub negative: u16,
@@ -16,5 +16,5 @@ pub struct SignCounts {
 pub fn panel_number(counts: SignCounts) -> i64
     ensures { result ≡ panel_number counts }
 {
-    counts.positive as i64 - counts.negative as i64
+    i64::from(counts.positive) - i64::from(counts.negative)
 }
