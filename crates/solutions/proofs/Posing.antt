@@ -1,9 +1,9 @@
--- The test of a question to the solver says `Posed`, and what it is by each of its causes.
-use mathlib.Core.Path.{◌≡◌, refl}
-use mathlib.Core.Bool.{Bool, true, false, ◌&&◌}
+-- The test of a question to the solver says `Posed`.
+use mathlib.Core.Path.{◌≡◌}
+use mathlib.Core.Bool.{true, ◌&&◌}
 use mathlib.Core.List.{List}
-use Prim.Native.Nat.{ℕ, ◌^◌, ◌<◌, ◌≤◌}
-use borrow.Author.Tests.{eqb-true, leb-true, le-leb, lt-leb, eq-eqb, ne_eqb}
+use Prim.Native.Nat.{ℕ, ◌^◌, ◌≤◌}
+use borrow.Author.Tests.{eqb-true, leb-true}
 use lib.Dec.{eqb, leb}
 use lib.IntN.{ℤ}
 use lib.ListN.{length}
@@ -25,16 +25,3 @@ list_true s L xs e = (leb-true (length L) most_points (both_left _ _ e), posed (
           below = below_from (3 ^ s) L (both_right (is_rising L) (is_below (3 ^ s) L) g);
           full = eqb-true (length xs) (length L) (both_left (eqb (length xs) (length L)) (is_rising L && is_below (3 ^ s) L) f);
         }
-
-pub list_long : (s : ℕ) (L : List ℕ) (xs : List ℤ) → most_points < length L → false ≡ is_list s L xs
-unfolding is_list
-list_long s L xs h = rw (lt-leb (length L) most_points h) refl
-
-pub list_unlike : (s : ℕ) (L : List ℕ) (xs : List ℤ) → length L ≤ most_points → (length xs ≡ length L → ⊥) → false ≡ is_list s L xs
-unfolding is_list
-list_unlike s L xs h k = rw (le-leb (length L) most_points h, ne_eqb (length xs) (length L) k) refl
-
-pub list_rest : (s : ℕ) (L : List ℕ) (xs : List ℤ) (b : Bool) → length L ≤ most_points → length xs ≡ length L → is_rising L ≡ b
-    → is_list s L xs ≡ b && is_below (3 ^ s) L
-unfolding is_list
-list_rest s L xs b h k e = rw (le-leb (length L) most_points h, eq-eqb (length xs) (length L) k, e) refl

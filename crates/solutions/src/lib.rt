@@ -6,22 +6,13 @@ ghost use Rattle.std.specs.Prelude.{◌≡◌, ◌≤◌};
 ghost use Rattle.refusals.specs.Limits.{most_polynomials};
 ghost use Rattle.solutions.specs.Posing.{is_list};
 
-use refusals::MOST_POINTS;
-use signs::{below, bound, rising};
+use signs::are_patterns;
 
 // Whether these are a rising list of at most 64 patterns of s polynomials, and as many numbers.
+#[tactic(auto, using(std::proofs::lemmas::Bool::Decides::nat_tests), unfolding(crate::specs::Posing::is_list, signs::specs::Lists::is_patterns))]
 pub fn posed(s: usize, l: &[u16], x: &[i64]) -> bool
     requires { s ≤ most_polynomials }
     ensures { result ≡ is_list s l.now x.now }
 {
-    if MOST_POINTS < l.len() {
-        return false;
-    }
-    if x.len() != l.len() {
-        return false;
-    }
-    if !rising(l) {
-        return false;
-    }
-    below(l, bound(s))
+    x.len() == l.len() && are_patterns(s, l)
 }
