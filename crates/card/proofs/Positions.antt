@@ -25,7 +25,7 @@ use Rattle.plane.specs.Format.{Point, plane_point}
 use Rattle.card.specs.Sound.{Sound}
 use Rattle.card.specs.Claim.{Near}
 use Rattle.card.specs.Answers.{shape, reading}
-use Rattle.refusals.specs.Numbers.{◌when◌, ◌▸◌, unless}
+use Rattle.refusals.specs.Numbers.{◌when◌, unless}
 use Rattle.std.proofs.Common.{Ok}
 use Rattle.card.specs.declared.Shape.{Shape}
 use Rattle.refusals.specs.Refusals.{refusing}

@@ -1,6 +1,5 @@
 -- `plane::powers` meets its contract. The loop's invariant: p has seven numbers, and below i they are the powers of x.
 use mathlib.Core.Path.{refl}
-use Prim.Native.Nat.{◌-◌}
 use native.Mathlib.Omega.{arith}
 use lib.ListN.{length-set}
 use Rattle.plane.proofs.PowerLists.{from_one, product_fits, stored, filled}

@@ -1,7 +1,6 @@
 -- `plane_checks::check_limits` meets its contract. The loop's invariant: no coefficient below i is outside its limits.
 use mathlib.Core.Path.{◌≡◌}
 use mathlib.Core.Bool.{false}
-use Prim.Native.Nat.{◌-◌, ◌≤◌}
 use Rattle.integers.specs.Search.{any_below, outside}
 use Rattle.plane.specs.Format.{term_coefficient}
 use Rattle.plane_checks.proofs.check_limits.Given as goal

@@ -2,7 +2,6 @@
 -- passed, or below that of every point.
 use mathlib.Core.Path.{◌≡◌}
 use mathlib.Core.Bool.{false}
-use Prim.Native.Nat.{◌-◌, ◌≤◌}
 use Rattle.integers.specs.Search.{any_below}
 use Rattle.plane_checks.specs.Checks.{wrong_plane_point}
 use Rattle.plane_checks.proofs.Points.{Low}

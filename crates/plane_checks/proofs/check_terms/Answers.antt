@@ -1,7 +1,7 @@
 -- `plane_checks::check_terms` meets its contract. The loop's invariant: no term below i is wrong, and least is one above the place of the
 -- last one passed, or 0.
 use mathlib.Core.Path.{◌≡◌, refl, sym, ap, ◌∙◌}
-use mathlib.Core.Bool.{true, false}
+use mathlib.Core.Bool.{true}
 use Prim.Native.Nat.{ℕ, ◌^◌, ◌<◌}
 use native.Mathlib.Omega.{arith}
 use lib.IntN.{nat_abs}

@@ -2,7 +2,6 @@
 -- last one passed, or 0.
 use mathlib.Core.Path.{◌≡◌}
 use mathlib.Core.Bool.{false}
-use Prim.Native.Nat.{◌-◌, ◌≤◌}
 use Rattle.integers.specs.Search.{any_below}
 use Rattle.plane_checks.specs.Checks.{wrong_term}
 use Rattle.plane_checks.proofs.Terms.{Least}

@@ -5,11 +5,11 @@ use mathlib.Core.List.{List}
 use Prim.Native.Nat.{ℕ, ◌-◌}
 use native.Mathlib.Omega.{arith}
 use Rattle.refusals.specs.Refusals.{checked}
-use Rattle.refusals.proofs.Refusals.{passed_none, refused_some, some_refuses, passed_up}
+use Rattle.refusals.proofs.Refusals.{passed_none, refused_some, passed_up}
 use Rattle.layout.specs.Format.{polynomials, bodies_at}
-use Rattle.card.specs.Card.{body_refusal, bodies_refusal}
+use Rattle.card.specs.Card.{bodies_refusal}
 use Rattle.card.proofs.Header.{headed}
-use Rattle.card.proofs.ByKind.{Fits, fits}
+use Rattle.card.proofs.ByKind.{fits}
 use Rattle.card.proofs.Bodies.{no_more, bad_body, bad_next, good_next}
 use Rattle.card.proofs.reader.check_bodies.Goals as goal
 

@@ -1,5 +1,5 @@
 -- `card::reader::check_place` meets its contract.
-use mathlib.Core.Path.{◌≡◌, sym, ap, ◌∙◌}
+use mathlib.Core.Path.{◌≡◌, ap, ◌∙◌}
 use Prim.Native.Nat.{ℕ}
 use native.Mathlib.Omega.{arith}
 use lib.IntN.{ℤ, nat_abs}
@@ -9,7 +9,7 @@ use mir.Facts.{to_z-of_z}
 use Rattle.std.proofs.Common.{Ok}
 use Rattle.refusals.specs.Refusals.{checked}
 use Rattle.refusals.proofs.Refusals.{passed_none, passed_on_first, passed_up}
-use Rattle.card.specs.Card.{position_refusal, place_refusal}
+use Rattle.card.specs.Card.{place_refusal}
 use Rattle.card.proofs.Positions.{place_far_x, place_far_y, place_held}
 use Rattle.card.proofs.reader.check_place.Goals as goal
 use Rattle.card.proofs.reader.check_place.Goals.{then-unsigned_abs-gt-FARTHEST-via-then-unsigned_abs-gt-FARTHEST as by-x}
