@@ -10,6 +10,7 @@ ghost use Rattle.signs.specs.Signs.{sign_digit};
 ghost use Rattle.polynomials.specs.Values.{evaluate};
 
 use refusals::MOST_DEGREE;
+use std::cmp::Ordering;
 
 // How many coefficients a polynomial has at most.
 pub const MOST_COEFFICIENTS: usize = MOST_DEGREE + 1;
@@ -19,11 +20,9 @@ pub fn evaluate(p: &[i64; MOST_COEFFICIENTS], x: i64) -> i64
     requires { Within most_coefficient p.now × (nat_abs x ≤ 128) }
     ensures { result ≡ evaluate p.now x }
 {
-    let mut v: i64 = 0;
-    let mut i = MOST_COEFFICIENTS;
-    while 0 < i {
-        i -= 1;
-        v = v * x + p[i];
+    let mut v = 0;
+    for c in p.iter().rev() {
+        v = v * x + *c;
     }
     v
 }
@@ -32,13 +31,11 @@ pub fn evaluate(p: &[i64; MOST_COEFFICIENTS], x: i64) -> i64
 pub fn sign_digit(v: i64) -> u16
     ensures { result ≡ sign_digit v }
 {
-    if v < 0 {
-        return 2;
+    match v.cmp(&0) {
+        Ordering::Less => 2,
+        Ordering::Equal => 0,
+        Ordering::Greater => 1,
     }
-    if v == 0 {
-        return 0;
-    }
-    1
 }
 
 // The digit of the sign at x of the polynomial with the coefficients p.
