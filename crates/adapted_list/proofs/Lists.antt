@@ -1,6 +1,7 @@
 -- The test of a list, and the answers of a call by its causes in document 01's order.
-use mathlib.Core.Path.{◌≡◌, refl, sym, ap, ◌∙◌}
-use mathlib.Core.Bool.{Bool, true, false, ◌&&◌}
+use mathlib.Core.Path.{◌≡◌, refl, ap, ◌∙◌}
+use mathlib.Core.Bool.{true, false}
+use Rattle.std.specs.Prelude.{Ok}
 use mathlib.Core.List.{List, [], ◌∷◌, ◌++◌}
 use Prim.Native.Nat.{ℕ, ◌^◌, ◌<◌, ◌≤◌}
 use native.Mathlib.Omega.{arith}
@@ -11,13 +12,12 @@ use lib.ListN.{length, drop}
 use lib.Seq.{sets, sets-eq}
 use Rattle.refusals.specs.Limits.{most_polynomials, most_points}
 use Rattle.refusals.specs.Numbers.{wrong_count, wrong_list, too_short}
-use Rattle.signs.specs.Lists.{Below, Rising, is_below, is_rising, shift}
+use Rattle.refusals.specs.Refusals.{refusing}
+use Rattle.signs.specs.Lists.{Below, Rising, is_below, is_rising, is_patterns, shift}
 use Rattle.signs.specs.Adapted.{adapted}
 use Rattle.signs.proofs.Orders.{both_left, both_right, below_from, rising_from}
 use Rattle.signs.proofs.Size.{as_many}
-use Rattle.adapted_list.specs.Listing.{is_patterns, list_of}
-use Rattle.adapted_list.specs.declared.Listed.{Listed}
-use Rattle.adapted_list.specs.declared.Listed.TheVariants.{Written, Refused}
+use Rattle.adapted_list.specs.Listing.{list_of}
 
 -- ---- the test
 
@@ -30,36 +30,28 @@ patterns_true s L e =
       below_from (3 ^ s) L (both_right (is_rising L) (is_below (3 ^ s) L) g),
     )
 
-pub patterns-long : (s : ℕ) (L : List ℕ) → most_points < length L → false ≡ is_patterns s L
-unfolding is_patterns
-patterns-long s L h = rw (lt-leb (length L) most_points h) refl
-
-pub patterns-rest : (s : ℕ) (L : List ℕ) (b : Bool) → length L ≤ most_points → is_rising L ≡ b → is_patterns s L ≡ b && is_below (3 ^ s) L
-unfolding is_patterns
-patterns-rest s L b h e = rw (le-leb (length L) most_points h, e) refl
-
 -- ---- the answers
 
 module _ (s : ℕ) (L out : List ℕ) where
-  pub refused_none : s ≡ 0 → list_of s L out ≡ (Refused wrong_count, out)
+  pub refused_none : s ≡ 0 → list_of s L out ≡ (refusing wrong_count, out)
   unfolding list_of
   refused_none h = rw h refl
 
-  pub refused-many : most_polynomials < s → list_of s L out ≡ (Refused wrong_count, out)
+  pub refused-many : most_polynomials < s → list_of s L out ≡ (refusing wrong_count, out)
   unfolding list_of
   refused-many h = rw (lt-ltb 0 s (omega arith), lt-leb s most_polynomials h) refl
 
-  pub refused_list : (s ≡ 0 → ⊥) → s ≤ most_polynomials → is_patterns s L ≡ false → list_of s L out ≡ (Refused wrong_list, out)
+  pub refused_list : (s ≡ 0 → ⊥) → s ≤ most_polynomials → is_patterns s L ≡ false → list_of s L out ≡ (refusing wrong_list, out)
   unfolding list_of
   refused_list h k e = rw (lt-ltb 0 s (omega arith), le-leb s most_polynomials k, e) refl
 
   pub refused-short : (s ≡ 0 → ⊥) → s ≤ most_polynomials → is_patterns s L ≡ true → length out < length L
-      → list_of s L out ≡ (Refused too_short, out)
+      → list_of s L out ≡ (refusing too_short, out)
   unfolding list_of
   refused-short h k e q = rw (lt-ltb 0 s (omega arith), le-leb s most_polynomials k, e, lt-leb (length L) (length out) q) refl
 
   pub written : (s ≡ 0 → ⊥) → s ≤ most_polynomials → is_patterns s L ≡ true → length L ≤ length out
-      → list_of s L out ≡ (Written, adapted s L ++ drop (length L) out)
+      → list_of s L out ≡ (Ok tt, adapted s L ++ drop (length L) out)
   unfolding list_of
   written h k e q = rw (lt-ltb 0 s (omega arith), le-leb s most_polynomials k, e, le-leb (length L) (length out) q) refl
 

@@ -2,14 +2,14 @@
 --
 --   Counted s               == there are 1 to 8 polynomials
 --   Patterns s L            == L is a rising list of at most 64 patterns of s polynomials
---   Gives s L out o out'    == a call on s, L and the slice out that answers o and leaves out': 3, 11 and 15 exactly for their causes in
---                              this order, each leaving the slice as it was; else the adapted list of L at the front, and the rest as it
---                              was
-use Rattle.std.specs.Prelude.{◌≡◌, ◌↔◌, ◌⊎◌, List, ℕ, ◌^◌, ◌<◌, ◌≤◌, length, take, drop}
+--   Gives s L out o out'    == a call on s, L and the slice out that answers o and leaves out': 3 (`WrongCount`), 11 (`WrongList`) and 15
+--                              (`TooShort`) exactly for their causes in this order, each leaving the slice as it was; else the adapted
+--                              list of L at the front, and the rest as it was
+use Rattle.std.specs.Prelude.{◌≡◌, ◌↔◌, ◌⊎◌, List, ℕ, ◌^◌, ◌<◌, ◌≤◌, length, take, drop, Result, Ok, Err}
+use Rattle.refusals.specs.declared.Refusal.{Refusal}
+use Rattle.refusals.specs.declared.Refusal.TheVariants.{WrongCount, WrongList, TooShort}
 use Rattle.signs.specs.Lists.{Below, Rising}
 use Rattle.signs.specs.Adapted.{adapted}
-use Rattle.adapted_list.specs.declared.Listed.{Listed}
-use Rattle.adapted_list.specs.declared.Listed.TheVariants.{Written, Refused}
 
 abbrev pub Counted : ℕ → Type 0
 Counted s = (1 ≤ s) × (s ≤ 8)
@@ -19,12 +19,12 @@ pub record Patterns (s : ℕ) (L : List ℕ) : Type 0 where
   pub rising : Rising L
   pub below : Below (3 ^ s) L
 
-pub record Gives (s : ℕ) (L out : List ℕ) (o : Listed) (out' : List ℕ) : Type 0 where
-  pub is_3 : (o ≡ Refused 3) ↔ (Counted s → ⊥)
-  pub is_11 : (o ≡ Refused 11) ↔ (Counted s × (Patterns s L → ⊥))
-  pub is_15 : (o ≡ Refused 15) ↔ (Counted s × Patterns s L × (length out < length L))
-  pub is_written : (o ≡ Written) ↔ (Counted s × Patterns s L × (length L ≤ length out))
-  pub no_other : (k : ℕ) → o ≡ Refused k → (k ≡ 3) ⊎ (k ≡ 11) ⊎ (k ≡ 15)
-  pub kept : (k : ℕ) → o ≡ Refused k → out' ≡ out
-  pub front : o ≡ Written → take (length L) out' ≡ adapted s L
-  pub rest : o ≡ Written → drop (length L) out' ≡ drop (length L) out
+pub record Gives (s : ℕ) (L out : List ℕ) (o : Result (Unit {0}) Refusal) (out' : List ℕ) : Type 0 where
+  pub is_3 : (o ≡ Err WrongCount) ↔ (Counted s → ⊥)
+  pub is_11 : (o ≡ Err WrongList) ↔ (Counted s × (Patterns s L → ⊥))
+  pub is_15 : (o ≡ Err TooShort) ↔ (Counted s × Patterns s L × (length out < length L))
+  pub is_written : (o ≡ Ok tt) ↔ (Counted s × Patterns s L × (length L ≤ length out))
+  pub no_other : (e : Refusal) → o ≡ Err e → (e ≡ WrongCount) ⊎ (e ≡ WrongList) ⊎ (e ≡ TooShort)
+  pub kept : (e : Refusal) → o ≡ Err e → out' ≡ out
+  pub front : o ≡ Ok tt → take (length L) out' ≡ adapted s L
+  pub rest : o ≡ Ok tt → drop (length L) out' ≡ drop (length L) out

@@ -1,19 +1,15 @@
 -- What a call for the adapted list answers and leaves in the slice lent to it (document 01, "Cause, and what the caller gets": 3, 11, 15,
 -- in the order of its last paragraph).
 --
---   is_patterns s L  == the test that L is a rising list of at most 64 patterns of s polynomials
 --   cause_of s L out == the number of the first cause that refuses a call on s, L and the slice out; 0 where none does
 --   list_of s L out  == the answer of a call on s, L and the slice out, and what the slice holds then: the adapted list of L at its front
-use Rattle.std.specs.Prelude.{Bool, not, ◌&&◌, List, ◌++◌, ℕ, ◌^◌, leb, ltb, length, drop}
-use Rattle.refusals.specs.Limits.{most_polynomials, most_points}
+use Rattle.std.specs.Prelude.{not, ◌&&◌, List, ◌++◌, ℕ, leb, ltb, length, drop, Result, Ok}
+use Rattle.refusals.specs.Limits.{most_polynomials}
 use Rattle.refusals.specs.Numbers.{wrong_count, wrong_list, too_short, ◌when◌, ◌▸◌, unless}
-use Rattle.signs.specs.Lists.{is_below, is_rising}
+use Rattle.refusals.specs.Refusals.{refusing}
+use Rattle.refusals.specs.declared.Refusal.{Refusal}
+use Rattle.signs.specs.Lists.{is_patterns}
 use Rattle.signs.specs.Adapted.{adapted}
-use Rattle.adapted_list.specs.declared.Listed.{Listed}
-use Rattle.adapted_list.specs.declared.Listed.TheVariants.{Written, Refused}
-
-unfoldable pub is_patterns : ℕ → List ℕ → Bool
-is_patterns s L = leb (length L) most_points && (is_rising L && is_below (3 ^ s) L)
 
 abbrev pub cause_of : ℕ → List ℕ → List ℕ → ℕ
 cause_of s L out =
@@ -21,5 +17,5 @@ cause_of s L out =
     ▸ wrong_list when not (is_patterns s L)
     ▸ too_short when not (leb (length L) (length out))
 
-unfoldable pub list_of : ℕ → List ℕ → List ℕ → Listed × List ℕ
-list_of s L out = unless (cause_of s L out) (λ m. (Refused m, out)) (Written, adapted s L ++ drop (length L) out)
+unfoldable pub list_of : ℕ → List ℕ → List ℕ → Result (Unit {0}) Refusal × List ℕ
+list_of s L out = unless (cause_of s L out) (λ m. (refusing m, out)) (Ok tt, adapted s L ++ drop (length L) out)

@@ -1,70 +1,34 @@
--- `adapted_list::adapted_list` meets its contract.
+-- `adapted_list::adapted_list` meets its contract. The refusals need no answer; of the list written, what `adapted` requires and what it leaves.
 use mathlib.Core.Path.{sym, ap, ◌∙◌}
-use Prim.Native.Nat.{◌^◌, ◌≤◌}
+use Prim.Native.Nat.{◌^◌, ◌<◌, ◌≤◌}
 use native.Mathlib.Omega.{arith}
 use native.Mathlib.Nat.{pow-le-pow_right}
-use Rattle.adapted_list.proofs.Lists.{patterns_true, refused_none, refused-many, refused_list, refused-short, written, stored}
+use Rattle.std.proofs.lemmas.Bool.Decides.{nat_tests}
+use Rattle.adapted_list.proofs.Lists.{patterns_true, written, stored}
 use Rattle.adapted_list.proofs.adapted_list.Goals as goal
 
-pub returns-then-s-eq0 : goal.returns-then-s-eq0
-returns-then-s-eq0 c =
-    let a = c.args in
-    let e = refused_none a.s a.patterns.now a.out.now c.if-s-eq0.true in
-    record {
-      value = sym (ap (λ p. p.0) e);
-      out_after = sym (ap (λ p. p.1) e);
-    }
+pub adapted-requires-clause-i_le_most_polynomials : goal.adapted-requires-clause-i_le_most_polynomials
+adapted-requires-clause-i_le_most_polynomials c =
+    let k : c.args.s ≤ 8 = grind (arith, nat_tests) in
+    let w : 3 ^ c.args.s ≤ 6561 = pow-le-pow_right (omega arith) k in
+    (k, omega arith)
 
-pub returns-then-s-gt-MOST_POLYNOMIALS : goal.returns-then-s-gt-MOST_POLYNOMIALS
-returns-then-s-gt-MOST_POLYNOMIALS c =
-    let a = c.args in
-    let e = refused-many a.s a.patterns.now a.out.now c.if-s-gt-MOST_POLYNOMIALS.true in
-    record {
-      value = sym (ap (λ p. p.0) e);
-      out_after = sym (ap (λ p. p.1) e);
-    }
+pub adapted-requires-clause-rising : goal.adapted-requires-clause-rising
+adapted-requires-clause-rising c =
+    let (n, r, b) = patterns_true c.args.s c.args.patterns.now (sym c.are_patterns.ensures ∙ c.if-not-are_patterns.false) in
+    (r, b)
 
-pub returns-then-not-are_patterns : goal.returns-then-not-are_patterns
-returns-then-not-are_patterns c =
-    let a = c.args in
-    let e = refused_list a.s a.patterns.now a.out.now c.if-s-eq0.false
-    c.if-s-gt-MOST_POLYNOMIALS.false (sym c.are_patterns.ensures ∙ c.if-not-are_patterns.true) in
-    record {
-      value = sym (ap (λ p. p.0) e);
-      out_after = sym (ap (λ p. p.1) e);
-    }
+pub adapted-requires-clause-l_len_bound : goal.adapted-requires-clause-l_len_bound
+adapted-requires-clause-l_len_bound c =
+    let (n, r, b) = patterns_true c.args.s c.args.patterns.now (sym c.are_patterns.ensures ∙ c.if-not-are_patterns.false) in
+    (n, omega (arith, c.if-out-patterns.false))
 
-pub returns-then-out-patterns : goal.returns-then-out-patterns
-returns-then-out-patterns c =
-    let a = c.args in
-    let e = refused-short a.s a.patterns.now a.out.now c.if-s-eq0.false
-    c.if-s-gt-MOST_POLYNOMIALS.false (sym c.are_patterns.ensures ∙ c.if-not-are_patterns.false) c.if-out-patterns.true in
-    record {
-      value = sym (ap (λ p. p.0) e);
-      out_after = sym (ap (λ p. p.1) e);
-    }
-
-pub adapted-requires : goal.adapted-requires
-adapted-requires c =
-    let a = c.args in
-    let (n, r, b) = patterns_true a.s a.patterns.now (sym c.are_patterns.ensures ∙ c.if-not-are_patterns.false) in
-    let k = c.if-s-gt-MOST_POLYNOMIALS.false in
-    let w : 3 ^ a.s ≤ 6561 = pow-le-pow_right (omega arith) k in
-    let q = c.if-out-patterns.false in
-    record {
-      i_le_most_polynomials = (k, omega arith);
-      rising = (r, b);
-      l_len_bound = (n, omega arith);
-    }
-
-pub returns : goal.returns
-returns c =
+pub returns-clause-out_after : goal.returns-clause-out_after
+returns-clause-out_after c =
     let a = c.args in
     let y = sym c.are_patterns.ensures ∙ c.if-not-are_patterns.false in
     let (n, r, b) = patterns_true a.s a.patterns.now y in
-    let q = c.if-out-patterns.false in
-    let e = written a.s a.patterns.now a.out.now c.if-s-eq0.false
-    c.if-s-gt-MOST_POLYNOMIALS.false y q in record {
-      value = sym (ap (λ p. p.0) e);
-      out_after = c.adapted.ensures.out_after ∙ stored a.s a.patterns.now a.out.now r b q ∙ sym (ap (λ p. p.1) e);
-    }
+    let k : a.s ≤ 8 = grind (arith, nat_tests) in
+    let h : 0 < a.s = grind (arith, nat_tests) in
+    c.adapted.ensures.out_after ∙ stored a.s a.patterns.now a.out.now r b c.if-out-patterns.false
+    ∙ sym (ap (λ p. p.1) (written a.s a.patterns.now a.out.now (λ z. omega arith) k y c.if-out-patterns.false))
