@@ -7,28 +7,17 @@ ghost use Rattle.std.specs.Prelude.{◌≡◌, ◌+◌, ◌*◌, ◌%◌, ◌^�
 ghost use Rattle.std.proofs.lemmas.List.Edits.{sets};
 ghost use Rattle.generator.specs.Generator.{step, after, below, draws};
 
-use std::num::wrapping_add_u32;
-
 const MULTIPLIER: u32 = 1664525;
 
 const INCREMENT: u32 = 1013904223;
 
-const MODULUS: u64 = 4294967296; // 2^32
-
 const DIVISOR: u32 = 65536; // of a state, before a draw is taken from it
-
-// a × b, modulo 2^32.
-fn wrapping_mul(a: u32, b: u32) -> u32
-    ensures { result ≡ (a * b) % 2 ^ 32 }
-{
-    ((a as u64) * (b as u64) % MODULUS) as u32
-}
 
 // The next state.
 fn step(state: u32) -> u32
     ensures { result ≡ step state }
 {
-    wrapping_add_u32(wrapping_mul(MULTIPLIER, state), INCREMENT)
+    MULTIPLIER.wrapping_mul(state).wrapping_add(INCREMENT)
 }
 
 // The draw below m that a state gives.
@@ -45,11 +34,9 @@ pub fn draw_numbers(state: u32, m: u32, less: u32, out: &mut [i64], at: usize, n
     ensures { (result ≡ after n state) × (out.new ≡ sets out.old at (draws m less n state)) }
 {
     let mut next = state;
-    let mut k = 0;
-    while k < n {
+    for k in 0..n {
         next = step(next);
         out[at + k] = below(next, m) as i64 - less as i64;
-        k += 1;
     }
     next
 }

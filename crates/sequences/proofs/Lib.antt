@@ -1,3 +1,3 @@
 pub mod Stores
 pub mod Sorted
-pub mod Insertion
+pub mod Library
