@@ -6,7 +6,6 @@ ghost use Rattle.std.proofs.Math.Seq.{paste};
 ghost use Rattle.lines.specs.Text.{newline, space, digit, line_room, longest_line, decimal, signed, text_of, question_line, row_line, end_line, refusal_line};
 ghost use Rattle.lines.specs.Put.{Put, PutLine};
 
-use integers::magnitude;
 use signs::{Pattern, Product};
 
 // The bytes of the longest line: `Q 65535 -9223372036854775808` and a newline.
@@ -41,11 +40,7 @@ pub fn copy_at(text: &[u8], out: &mut [u8], at: usize)
     requires { at + length text.now ≤ length out.old }
     ensures { out.new ≡ paste out.old at text.now (length text.now) }
 {
-    let mut k = 0;
-    while k < text.len() {
-        out[at + k] = text[k];
-        k += 1;
-    }
+    out[at..at + text.len()].copy_from_slice(text);
 }
 
 // Writes one byte at `at`. This, and each call below, returns where its text ends.
@@ -112,9 +107,9 @@ fn put_integer(out: &mut [u8], at: usize, z: i64) -> usize
 {
     if z < 0 {
         let k = put_byte(out, at, b'-');
-        return put_natural(out, k, magnitude(z));
+        return put_natural(out, k, z.unsigned_abs());
     }
-    put_natural(out, at, magnitude(z))
+    put_natural(out, at, z.unsigned_abs())
 }
 
 // A letter and a number.
@@ -179,42 +174,30 @@ pub fn question_line(product: Product, answer: i64) -> Line
     ensures { (text_of result ≡ question_line product.0 answer) × (result.length ≤ line_room) }
 {
     let mut bytes = [0u8; LINE_ROOM];
-    let n = put_question(&mut bytes, 0, product.0, answer);
-    Line {
-        bytes: bytes,
-        length: n,
-    }
+    let length = put_question(&mut bytes, 0, product.0, answer);
+    Line { bytes, length }
 }
 
 pub fn row_line(pattern: Pattern, count: u16) -> Line
     ensures { (text_of result ≡ row_line pattern.0 count) × (result.length ≤ line_room) }
 {
     let mut bytes = [0u8; LINE_ROOM];
-    let n = put_row(&mut bytes, 0, pattern.0, count);
-    Line {
-        bytes: bytes,
-        length: n,
-    }
+    let length = put_row(&mut bytes, 0, pattern.0, count);
+    Line { bytes, length }
 }
 
 pub fn end_line(questions: usize) -> Line
     ensures { (text_of result ≡ end_line questions) × (result.length ≤ line_room) }
 {
     let mut bytes = [0u8; LINE_ROOM];
-    let n = put_end(&mut bytes, 0, questions);
-    Line {
-        bytes: bytes,
-        length: n,
-    }
+    let length = put_end(&mut bytes, 0, questions);
+    Line { bytes, length }
 }
 
 pub fn refusal_line(number: u16) -> Line
     ensures { (text_of result ≡ refusal_line number) × (result.length ≤ line_room) }
 {
     let mut bytes = [0u8; LINE_ROOM];
-    let n = put_refusal(&mut bytes, 0, number);
-    Line {
-        bytes: bytes,
-        length: n,
-    }
+    let length = put_refusal(&mut bytes, 0, number);
+    Line { bytes, length }
 }

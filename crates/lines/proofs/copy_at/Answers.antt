@@ -1,15 +1,13 @@
 -- `lines::copy_at` meets its contract: what was passed is copied, the rest as it was.
-use Prim.Native.Nat.{◌-◌}
-use native.Mathlib.Numerals.{add-one}
-use native.Mathlib.Omega.{arith}
-use lib.Seq.{paste-suc}
+use Rattle.std.proofs.Common.{◌≡◌, ℕ, ◌+◌, ◌-◌, List, length, take, drop, append_assoc, sym, arith}
+use borrow.Rule.Slice.PartMut.{put_mid}
+use lib.Seq.{paste, take-length, drop-drop}
 use Rattle.lines.proofs.copy_at.Goals as goal
 
-pub loop-k-preserved : goal.loop-k-preserved
-loop-k-preserved c =
-    let a = c.args in (
-      omega arith,
-      rw (c.loop-k.invariant.1, add-one c.loop-k.k)
-          (paste-suc a.out.now a.at a.text.now c.loop-k.k 0 (omega (arith, c.requires))
-          c.loop-k-test.true),
-    )
+copied : (d t s : List ℕ) (at k : ℕ) → s ≡ t → k ≡ length t → put_mid at k d s ≡ paste d at t (length t)
+copied d t s at k e f = rw (e, f, drop-drop (length t) at d, take-length t) (sym (append_assoc (take at d) t (drop (at + length t) d)))
+
+pub returns : goal.returns
+returns c =
+    let n = length c.args.text.now in
+    copied c.args.out.now c.args.text.now _ c.args.at (c.args.at + n - c.args.at) c.copy_from_slice.ensures.after (omega arith)

@@ -29,7 +29,7 @@ put_byte-k-requires c = omega (arith, ap length (negative (goal.at.put_byte-k-re
 
 pub put_natural-requires : goal.put_natural-requires
 put_natural-requires c =
-    let m = rw (to_z-of_z w64 c.args.z c.ranges.z) at c.magnitude.ensures in
+    let m = rw (to_z-of_z w64 c.args.z c.ranges.z) at c.unsigned_abs.ensures.value in
     rw m (omega (
       arith,
       ap length (negative (goal.at.put_natural-requires c).Then-z-lt0),
@@ -40,17 +40,17 @@ put_natural-requires c =
 
 pub returns-then-z-lt0 : goal.returns-then-z-lt0
 returns-then-z-lt0 c =
-    let m = rw (to_z-of_z w64 c.args.z c.ranges.z) at c.magnitude.ensures in
+    let m = rw (to_z-of_z w64 c.args.z c.ranges.z) at c.unsigned_abs.ensures.value in
     put_same (sym (negative (goal.at.returns-then-z-lt0 c).Then-z-lt0))
     (put_more c.put_byte-k.ensures
     (rw m at c.put_natural.ensures))
 
 pub put_natural-requires-2 : goal.put_natural-requires-2
 put_natural-requires-2 c =
-    let m = rw (to_z-of_z w64 c.args.z c.ranges.z) at c.magnitude-2.ensures in
+    let m = rw (to_z-of_z w64 c.args.z c.ranges.z) at c.unsigned_abs-2.ensures.value in
     rw (m, ← not_negative (goal.at.put_natural-requires-2 c).Else-z-lt0) c.requires
 
 pub returns : goal.returns
 returns c =
-    let m = rw (to_z-of_z w64 c.args.z c.ranges.z) at c.magnitude-2.ensures in
+    let m = rw (to_z-of_z w64 c.args.z c.ranges.z) at c.unsigned_abs-2.ensures.value in
     put_same (sym (not_negative (goal.at.returns c).Else-z-lt0)) (rw m at c.put_natural-2.ensures)
