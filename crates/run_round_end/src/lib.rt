@@ -171,9 +171,7 @@ fn by_moments(
     requires counts_value { (proper_rows i (rows_with patterns.now counts.now) ≡ true) × (most_points ≤ length new.old) × (most_points ≤ length numbers.old) }
     ensures { Left (by_moments i (rows_with patterns.now counts.now) (x.now ++ y.now)) result new.new numbers.new }
 {
-    if !solve_pair(patterns, i, x, y, es, gs) {
-        return None;
-    }
+    solve_pair(patterns, i, x, y, es, gs)?;
     judge(i, patterns, counts, es, gs, new, numbers)
 }
 

@@ -8,28 +8,27 @@ use borrow.Author.Tests.{lt-ltb, le-leb, lt-leb}
 use lib.IntN.{ℤ}
 use lib.ListN.{length}
 use Rattle.refusals.specs.Limits.{most_polynomials}
-use Rattle.refusals.specs.Numbers.{wrong_count, wrong_list, too_short}
 use Rattle.solutions.specs.Solver.{solver_of}
 use Rattle.solutions.specs.Posing.{is_list}
 use Rattle.solver.specs.Solving.{answered, solve_of}
-use Rattle.solver.specs.declared.Solved.{Solved}
-use Rattle.solver.specs.declared.Solved.TheVariants.{Refused}
+use Rattle.std.specs.Prelude.{Err}
+use Rattle.refusals.specs.declared.Refusal.TheVariants.{WrongCount, WrongList, TooShort}
 
-pub refused_none : (s : ℕ) (L : List ℕ) (xs out : List ℤ) → s ≡ 0 → solve_of s L xs out ≡ (Refused wrong_count, out)
+pub refused_none : (s : ℕ) (L : List ℕ) (xs out : List ℤ) → s ≡ 0 → solve_of s L xs out ≡ (Err WrongCount, out)
 unfolding solve_of
 refused_none s L xs out h = rw h refl
 
-pub refused-many : (s : ℕ) (L : List ℕ) (xs out : List ℤ) → most_polynomials < s → solve_of s L xs out ≡ (Refused wrong_count, out)
+pub refused-many : (s : ℕ) (L : List ℕ) (xs out : List ℤ) → most_polynomials < s → solve_of s L xs out ≡ (Err WrongCount, out)
 unfolding solve_of
 refused-many s L xs out h = rw (lt-ltb 0 s (omega arith), lt-leb s most_polynomials h) refl
 
 pub refused_list : (s : ℕ) (L : List ℕ) (xs out : List ℤ) → (s ≡ 0 → ⊥) → s ≤ most_polynomials → is_list s L xs ≡ false
-    → solve_of s L xs out ≡ (Refused wrong_list, out)
+    → solve_of s L xs out ≡ (Err WrongList, out)
 unfolding solve_of
 refused_list s L xs out h k e = rw (lt-ltb 0 s (omega arith), le-leb s most_polynomials k, e) refl
 
 pub refused-short : (s : ℕ) (L : List ℕ) (xs out : List ℤ) → (s ≡ 0 → ⊥) → s ≤ most_polynomials → is_list s L xs ≡ true
-    → length out < length L → solve_of s L xs out ≡ (Refused too_short, out)
+    → length out < length L → solve_of s L xs out ≡ (Err TooShort, out)
 unfolding solve_of
 refused-short s L xs out h k e q = rw (lt-ltb 0 s (omega arith), le-leb s most_polynomials k, e, lt-leb (length L) (length out) q) refl
 

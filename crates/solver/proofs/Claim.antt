@@ -26,8 +26,10 @@ use Rattle.solutions.proofs.Posing.{list_true}
 use Rattle.solutions.proofs.SolverRight.{solver_right}
 use Rattle.solver.specs.Solving.{answered, solve_of}
 use Rattle.solver.specs.Claim.{CountFits, ListFits, RoomFits, Solvable, SolverClaim}
-use Rattle.solver.specs.declared.Solved.{Solved}
-use Rattle.solver.specs.declared.Solved.TheVariants.{Found, Refused}
+use Rattle.std.specs.Prelude.{Result, Ok, Err}
+use Rattle.refusals.specs.Refusals.{number_of}
+use Rattle.refusals.specs.declared.Refusal.{Refusal}
+use Rattle.refusals.specs.declared.Refusal.TheVariants.{WrongCount, WrongList, NoSolution, TooShort}
 use Rattle.solver.proofs.Answers.{refused_none, refused-many, refused_list, refused-short, well_posed}
 use Rattle.solver.proofs.solve.Reads as solve
 
@@ -44,12 +46,12 @@ fits_list s L xs f =
     (both (is_rising L) (is_below (3 ^ s) L) (rising_test L f.rising) (below_test (3 ^ s) L f.below)))
 
 -- the five cases of a call
-data Case (s : ℕ) (L : List ℕ) (xs out : List ℤ) (r : Solved) (left : List ℤ) : Type 0 where
-  count : (CountFits s → ⊥) → r ≡ Refused 3 → left ≡ out → Case s L xs out r left
-  list : CountFits s → (ListFits s L xs → ⊥) → r ≡ Refused 11 → left ≡ out → Case s L xs out r left
-  room : CountFits s → ListFits s L xs → (RoomFits L out → ⊥) → r ≡ Refused 15 → left ≡ out → Case s L xs out r left
-  unsolved : CountFits s → ListFits s L xs → RoomFits L out → (Solvable s L xs → ⊥) → r ≡ Refused 12 → left ≡ out → Case s L xs out r left
-  solved : CountFits s → ListFits s L xs → RoomFits L out → (ws : List ℤ) → Solution s L xs ws → r ≡ Found
+data Case (s : ℕ) (L : List ℕ) (xs out : List ℤ) (r : Result (Unit {0}) Refusal) (left : List ℤ) : Type 0 where
+  count : (CountFits s → ⊥) → r ≡ Err WrongCount → left ≡ out → Case s L xs out r left
+  list : CountFits s → (ListFits s L xs → ⊥) → r ≡ Err WrongList → left ≡ out → Case s L xs out r left
+  room : CountFits s → ListFits s L xs → (RoomFits L out → ⊥) → r ≡ Err TooShort → left ≡ out → Case s L xs out r left
+  unsolved : CountFits s → ListFits s L xs → RoomFits L out → (Solvable s L xs → ⊥) → r ≡ Err NoSolution → left ≡ out → Case s L xs out r left
+  solved : CountFits s → ListFits s L xs → RoomFits L out → (ws : List ℤ) → Solution s L xs ws → r ≡ Ok tt
       → left ≡ ws ++ drop (length L) out → Case s L xs out r left
 
 module _ (s : ℕ) (L : List ℕ) (xs out : List ℤ) where
@@ -98,89 +100,89 @@ module _ (s : ℕ) (L : List ℕ) (xs out : List ℤ) where
 
 -- ---- the cases exclude one another
 
-abbrev number : Solved → ℕ
-number Found = 0
-number (Refused m) = m
+abbrev number : Result (Unit {0}) Refusal → ℕ
+number (Ok _) = 0
+number (Err e) = number_of e
 
-abbrev is_found : Solved → ℕ
-is_found Found = 1
-is_found (Refused m) = 0
+abbrev is_found : Result (Unit {0}) Refusal → ℕ
+is_found (Ok _) = 1
+is_found (Err e) = 0
 
-found_not : {r : Solved} (m : ℕ) → r ≡ Refused m → r ≡ Found → ⊥
+found_not : {r : Result (Unit {0}) Refusal} (m : Refusal) → r ≡ Err m → r ≡ Ok tt → ⊥
 found_not m e h = let x : ◌≡◌ {A = ℕ} 0 1 = sym (ap is_found e) ∙ ap is_found h in omega arith
 
-among : (m : ℕ) → is_among m (3 ∷ 11 ∷ 15 ∷ 12 ∷ []) ≡ true → {r : Solved} (k : ℕ) → r ≡ Refused m → r ≡ Refused k
-    → Among (3 ∷ 11 ∷ 15 ∷ 12 ∷ []) k
+among : (m : Refusal) → is_among (number_of m) (3 ∷ 11 ∷ 15 ∷ 12 ∷ []) ≡ true → {r : Result (Unit {0}) Refusal} (k : Refusal) → r ≡ Err m
+    → r ≡ Err k → Among (3 ∷ 11 ∷ 15 ∷ 12 ∷ []) (number_of k)
 among m a k e h = record { stands = rw (sym (ap number h) ∙ ap number e) a }
 
-module _ (s : ℕ) (L : List ℕ) (xs out : List ℤ) (r : Solved) (left : List ℤ) where
-  other : (m k : ℕ) → r ≡ Refused m → r ≡ Refused k → m ≡ k
+module _ (s : ℕ) (L : List ℕ) (xs out : List ℤ) (r : Result (Unit {0}) Refusal) (left : List ℤ) where
+  other : (m k : Refusal) → r ≡ Err m → r ≡ Err k → number_of m ≡ number_of k
   other m k e h = sym (ap number e) ∙ ap number h
 
-  to_three : Case s L xs out r left → r ≡ Refused 3 → CountFits s → ⊥
+  to_three : Case s L xs out r left → r ≡ Err WrongCount → CountFits s → ⊥
   to_three (count n e k) h = n
-  to_three (list c n e k) h = absurd (omega (arith, other 11 3 e h))
-  to_three (room c f n e k) h = absurd (omega (arith, other 15 3 e h))
-  to_three (unsolved c f q n e k) h = absurd (omega (arith, other 12 3 e h))
-  to_three (solved c f q ws S e k) h = absurd (found_not 3 h e)
+  to_three (list c n e k) h = absurd (omega (arith, other WrongList WrongCount e h))
+  to_three (room c f n e k) h = absurd (omega (arith, other TooShort WrongCount e h))
+  to_three (unsolved c f q n e k) h = absurd (omega (arith, other NoSolution WrongCount e h))
+  to_three (solved c f q ws S e k) h = absurd (found_not WrongCount h e)
 
-  from_three : Case s L xs out r left → (CountFits s → ⊥) → r ≡ Refused 3
+  from_three : Case s L xs out r left → (CountFits s → ⊥) → r ≡ Err WrongCount
   from_three (count n e k) h = e
   from_three (list c n e k) h = absurd (h c)
   from_three (room c f n e k) h = absurd (h c)
   from_three (unsolved c f q n e k) h = absurd (h c)
   from_three (solved c f q ws S e k) h = absurd (h c)
 
-  to_eleven : Case s L xs out r left → r ≡ Refused 11 → CountFits s × (ListFits s L xs → ⊥)
-  to_eleven (count n e k) h = absurd (omega (arith, other 3 11 e h))
+  to_eleven : Case s L xs out r left → r ≡ Err WrongList → CountFits s × (ListFits s L xs → ⊥)
+  to_eleven (count n e k) h = absurd (omega (arith, other WrongCount WrongList e h))
   to_eleven (list c n e k) h = (c, n)
-  to_eleven (room c f n e k) h = absurd (omega (arith, other 15 11 e h))
-  to_eleven (unsolved c f q n e k) h = absurd (omega (arith, other 12 11 e h))
-  to_eleven (solved c f q ws S e k) h = absurd (found_not 11 h e)
+  to_eleven (room c f n e k) h = absurd (omega (arith, other TooShort WrongList e h))
+  to_eleven (unsolved c f q n e k) h = absurd (omega (arith, other NoSolution WrongList e h))
+  to_eleven (solved c f q ws S e k) h = absurd (found_not WrongList h e)
 
-  from_eleven : Case s L xs out r left → CountFits s → (ListFits s L xs → ⊥) → r ≡ Refused 11
+  from_eleven : Case s L xs out r left → CountFits s → (ListFits s L xs → ⊥) → r ≡ Err WrongList
   from_eleven (count n e k) c' h = absurd (n c')
   from_eleven (list c n e k) c' h = e
   from_eleven (room c f n e k) c' h = absurd (h f)
   from_eleven (unsolved c f q n e k) c' h = absurd (h f)
   from_eleven (solved c f q ws S e k) c' h = absurd (h f)
 
-  to_fifteen : Case s L xs out r left → r ≡ Refused 15 → CountFits s × ListFits s L xs × (RoomFits L out → ⊥)
-  to_fifteen (count n e k) h = absurd (omega (arith, other 3 15 e h))
-  to_fifteen (list c n e k) h = absurd (omega (arith, other 11 15 e h))
+  to_fifteen : Case s L xs out r left → r ≡ Err TooShort → CountFits s × ListFits s L xs × (RoomFits L out → ⊥)
+  to_fifteen (count n e k) h = absurd (omega (arith, other WrongCount TooShort e h))
+  to_fifteen (list c n e k) h = absurd (omega (arith, other WrongList TooShort e h))
   to_fifteen (room c f n e k) h = (c, f, n)
-  to_fifteen (unsolved c f q n e k) h = absurd (omega (arith, other 12 15 e h))
-  to_fifteen (solved c f q ws S e k) h = absurd (found_not 15 h e)
+  to_fifteen (unsolved c f q n e k) h = absurd (omega (arith, other NoSolution TooShort e h))
+  to_fifteen (solved c f q ws S e k) h = absurd (found_not TooShort h e)
 
-  from_fifteen : Case s L xs out r left → CountFits s → ListFits s L xs → (RoomFits L out → ⊥) → r ≡ Refused 15
+  from_fifteen : Case s L xs out r left → CountFits s → ListFits s L xs → (RoomFits L out → ⊥) → r ≡ Err TooShort
   from_fifteen (count n e k) c' f' h = absurd (n c')
   from_fifteen (list c n e k) c' f' h = absurd (n f')
   from_fifteen (room c f n e k) c' f' h = e
   from_fifteen (unsolved c f q n e k) c' f' h = absurd (h q)
   from_fifteen (solved c f q ws S e k) c' f' h = absurd (h q)
 
-  to_twelve : Case s L xs out r left → r ≡ Refused 12 → CountFits s × ListFits s L xs × RoomFits L out × (Solvable s L xs → ⊥)
-  to_twelve (count n e k) h = absurd (omega (arith, other 3 12 e h))
-  to_twelve (list c n e k) h = absurd (omega (arith, other 11 12 e h))
-  to_twelve (room c f n e k) h = absurd (omega (arith, other 15 12 e h))
+  to_twelve : Case s L xs out r left → r ≡ Err NoSolution → CountFits s × ListFits s L xs × RoomFits L out × (Solvable s L xs → ⊥)
+  to_twelve (count n e k) h = absurd (omega (arith, other WrongCount NoSolution e h))
+  to_twelve (list c n e k) h = absurd (omega (arith, other WrongList NoSolution e h))
+  to_twelve (room c f n e k) h = absurd (omega (arith, other TooShort NoSolution e h))
   to_twelve (unsolved c f q n e k) h = (c, f, q, n)
-  to_twelve (solved c f q ws S e k) h = absurd (found_not 12 h e)
+  to_twelve (solved c f q ws S e k) h = absurd (found_not NoSolution h e)
 
-  from_twelve : Case s L xs out r left → CountFits s → ListFits s L xs → RoomFits L out → (Solvable s L xs → ⊥) → r ≡ Refused 12
+  from_twelve : Case s L xs out r left → CountFits s → ListFits s L xs → RoomFits L out → (Solvable s L xs → ⊥) → r ≡ Err NoSolution
   from_twelve (count n e k) c' f' q' h = absurd (n c')
   from_twelve (list c n e k) c' f' q' h = absurd (n f')
   from_twelve (room c f n e k) c' f' q' h = absurd (n q')
   from_twelve (unsolved c f q n e k) c' f' q' h = e
   from_twelve (solved c f q ws S e k) c' f' q' h = absurd (h (ws, S))
 
-  to_found : Case s L xs out r left → r ≡ Found → CountFits s × ListFits s L xs × RoomFits L out × Solvable s L xs
-  to_found (count n e k) h = absurd (found_not 3 e h)
-  to_found (list c n e k) h = absurd (found_not 11 e h)
-  to_found (room c f n e k) h = absurd (found_not 15 e h)
-  to_found (unsolved c f q n e k) h = absurd (found_not 12 e h)
+  to_found : Case s L xs out r left → r ≡ Ok tt → CountFits s × ListFits s L xs × RoomFits L out × Solvable s L xs
+  to_found (count n e k) h = absurd (found_not WrongCount e h)
+  to_found (list c n e k) h = absurd (found_not WrongList e h)
+  to_found (room c f n e k) h = absurd (found_not TooShort e h)
+  to_found (unsolved c f q n e k) h = absurd (found_not NoSolution e h)
   to_found (solved c f q ws S e k) h = (c, f, q, (ws, S))
 
-  from_found : Case s L xs out r left → CountFits s → ListFits s L xs → RoomFits L out → Solvable s L xs → r ≡ Found
+  from_found : Case s L xs out r left → CountFits s → ListFits s L xs → RoomFits L out → Solvable s L xs → r ≡ Ok tt
   from_found (count n e k) c' f' q' h = absurd (n c')
   from_found (list c n e k) c' f' q' h = absurd (n f')
   from_found (room c f n e k) c' f' q' h = absurd (n q')
@@ -188,27 +190,27 @@ module _ (s : ℕ) (L : List ℕ) (xs out : List ℤ) (r : Solved) (left : List 
   from_found (solved c f q ws S e k) c' f' q' h = e
 
   -- the numbers found are those of any solution: there is only one
-  to_written : Case s L xs out r left → (ws : List ℤ) → r ≡ Found → Solution s L xs ws → left ≡ ws ++ drop (length L) out
-  to_written (count n e k) ws h S = absurd (found_not 3 e h)
-  to_written (list c n e k) ws h S = absurd (found_not 11 e h)
-  to_written (room c f n e k) ws h S = absurd (found_not 15 e h)
-  to_written (unsolved c f q n e k) ws h S = absurd (found_not 12 e h)
+  to_written : Case s L xs out r left → (ws : List ℤ) → r ≡ Ok tt → Solution s L xs ws → left ≡ ws ++ drop (length L) out
+  to_written (count n e k) ws h S = absurd (found_not WrongCount e h)
+  to_written (list c n e k) ws h S = absurd (found_not WrongList e h)
+  to_written (room c f n e k) ws h S = absurd (found_not TooShort e h)
+  to_written (unsolved c f q n e k) ws h S = absurd (found_not NoSolution e h)
   to_written (solved c f q vs S' e k) ws h S =
       k ∙ ap (λ (us : List ℤ). us ++ drop (length L) out) (solver_right.only s L xs vs ws (posed s L xs out f) S' S)
 
-  to_kept : Case s L xs out r left → (m : ℕ) → r ≡ Refused m → left ≡ out
+  to_kept : Case s L xs out r left → (m : Refusal) → r ≡ Err m → left ≡ out
   to_kept (count n e k) m h = k
   to_kept (list c n e k) m h = k
   to_kept (room c f n e k) m h = k
   to_kept (unsolved c f q n e k) m h = k
   to_kept (solved c f q ws S e k) m h = absurd (found_not m h e)
 
-  to_numbers : Case s L xs out r left → (m : ℕ) → r ≡ Refused m → Among (3 ∷ 11 ∷ 15 ∷ 12 ∷ []) m
+  to_numbers : Case s L xs out r left → (m : Refusal) → r ≡ Err m → Among (3 ∷ 11 ∷ 15 ∷ 12 ∷ []) (number_of m)
   unfolding is_among
-  to_numbers (count n e k) m h = among 3 refl m e h
-  to_numbers (list c n e k) m h = among 11 refl m e h
-  to_numbers (room c f n e k) m h = among 15 refl m e h
-  to_numbers (unsolved c f q n e k) m h = among 12 refl m e h
+  to_numbers (count n e k) m h = among WrongCount refl m e h
+  to_numbers (list c n e k) m h = among WrongList refl m e h
+  to_numbers (room c f n e k) m h = among TooShort refl m e h
+  to_numbers (unsolved c f q n e k) m h = among NoSolution refl m e h
   to_numbers (solved c f q ws S e k) m h = absurd (found_not m h e)
 
   claim_of : Case s L xs out r left → SolverClaim s L xs out r left
@@ -229,7 +231,7 @@ pub solve_claims : (s : ℕ) (L : List ℕ) (xs out : List ℤ) → SolverClaim 
 solve_claims s L xs out = claim_of s L xs out (solve_of s L xs out).0 (solve_of s L xs out).1 (case_of s L xs out)
 
 -- every call of `solve`, on any arguments
-pub solver_claim : (κs : Lfts 3) (s : ℕ) (patterns : Bor (List ℕ)) (numbers : Bor (List ℤ)) (out out' : MutBor (List ℤ)) (r : Solved)
+pub solver_claim : (κs : Lfts 3) (s : ℕ) (patterns : Bor (List ℕ)) (numbers : Bor (List ℤ)) (out out' : MutBor (List ℤ)) (r : Result (Unit {0}) Refusal)
     → solve.Learnt κs (s, (patterns, (numbers, (out, tt)))) r (s, (patterns, (numbers, (out', tt))))
     → SolverClaim s patterns.now numbers.now out.now r out'.now
 solver_claim κs s patterns numbers out out' r k = rw (k.0, k.1) (solve_claims s patterns.now numbers.now out.now)

@@ -13,20 +13,20 @@ use Rattle.solutions.specs.Solver.{solver_of}
 use Rattle.solutions.specs.Posing.{is_list}
 use Rattle.solutions.proofs.Edges.{solver_edges}
 use Rattle.solver.specs.Solving.{answered, solve_of}
-use Rattle.solver.specs.declared.Solved.{Solved}
-use Rattle.solver.specs.declared.Solved.TheVariants.{Found, Refused}
+use Rattle.std.specs.Prelude.{Ok, Err}
+use Rattle.refusals.specs.declared.Refusal.TheVariants.{NoSolution}
 use Rattle.solver.proofs.Answers.{well_posed}
 
 pub record SolverEdges : Type 0 where
   -- "s = 3, patterns 13, 22, 26: .. numbers 3, 1, −1 solve to 1, 1, 1"
   pub three : (x y z : ℤ) (rest : List ℤ) → solve_of 3 (13 ∷ 22 ∷ 26 ∷ []) (pos 3 ∷ pos 1 ∷ negsuc 0 ∷ []) (x ∷ y ∷ z ∷ rest)
-      ≡ (Found, pos 1 ∷ pos 1 ∷ pos 1 ∷ rest)
+      ≡ (Ok tt, pos 1 ∷ pos 1 ∷ pos 1 ∷ rest)
   -- "s = 1, patterns 1, 2: (1, 3) gives 2, −1; (1, 0): 12; (0, 64) gives 32, −32; (0, 66): 12"
-  pub negative : (x y : ℤ) (rest : List ℤ) → solve_of 1 (1 ∷ 2 ∷ []) (pos 1 ∷ pos 3 ∷ []) (x ∷ y ∷ rest) ≡ (Found, pos 2 ∷ negsuc 0 ∷ rest)
-  pub odd : (x y : ℤ) (rest : List ℤ) → solve_of 1 (1 ∷ 2 ∷ []) (pos 1 ∷ pos 0 ∷ []) (x ∷ y ∷ rest) ≡ (Refused 12, x ∷ y ∷ rest)
+  pub negative : (x y : ℤ) (rest : List ℤ) → solve_of 1 (1 ∷ 2 ∷ []) (pos 1 ∷ pos 3 ∷ []) (x ∷ y ∷ rest) ≡ (Ok tt, pos 2 ∷ negsuc 0 ∷ rest)
+  pub odd : (x y : ℤ) (rest : List ℤ) → solve_of 1 (1 ∷ 2 ∷ []) (pos 1 ∷ pos 0 ∷ []) (x ∷ y ∷ rest) ≡ (Err NoSolution, x ∷ y ∷ rest)
   pub at-limit : (x y : ℤ) (rest : List ℤ) → solve_of 1 (1 ∷ 2 ∷ []) (pos 0 ∷ pos 64 ∷ []) (x ∷ y ∷ rest)
-      ≡ (Found, pos 32 ∷ negsuc 31 ∷ rest)
-  pub past-limit : (x y : ℤ) (rest : List ℤ) → solve_of 1 (1 ∷ 2 ∷ []) (pos 0 ∷ pos 66 ∷ []) (x ∷ y ∷ rest) ≡ (Refused 12, x ∷ y ∷ rest)
+      ≡ (Ok tt, pos 32 ∷ negsuc 31 ∷ rest)
+  pub past-limit : (x y : ℤ) (rest : List ℤ) → solve_of 1 (1 ∷ 2 ∷ []) (pos 0 ∷ pos 66 ∷ []) (x ∷ y ∷ rest) ≡ (Err NoSolution, x ∷ y ∷ rest)
 
 -- a call that no cause refuses but, perhaps, 12
 call : (s : ℕ) (L : List ℕ) (xs out : List ℤ) (o : Option (List ℤ)) → 1 ≤ s → s ≤ most_polynomials → is_list s L xs ≡ true

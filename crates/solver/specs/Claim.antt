@@ -6,12 +6,13 @@
 --   RoomFits L out                  == the slice out has a place for each pattern of L
 --   Solvable s L xs                 == there are whole numbers as document 01 asks (`Solution`)
 --   SolverClaim s L xs out r left   == a call on s, the list L, the numbers xs and a slice that held out may answer r and leave left there
-use Rattle.std.specs.Prelude.{◌≡◌, ◌↔◌, List, [], ◌∷◌, ◌++◌, ℕ, ◌^◌, ◌≤◌, ℤ, length, drop}
+use Rattle.std.specs.Prelude.{◌≡◌, ◌↔◌, List, [], ◌∷◌, ◌++◌, ℕ, ◌^◌, ◌≤◌, ℤ, length, drop, Result, Ok, Err}
 use Rattle.refusals.specs.Numbers.{Among}
+use Rattle.refusals.specs.Refusals.{number_of}
+use Rattle.refusals.specs.declared.Refusal.{Refusal}
+use Rattle.refusals.specs.declared.Refusal.TheVariants.{WrongCount, WrongList, NoSolution, TooShort}
 use Rattle.signs.specs.Lists.{Below, Rising}
 use Rattle.solutions.specs.Solution.{Solution}
-use Rattle.solver.specs.declared.Solved.{Solved}
-use Rattle.solver.specs.declared.Solved.TheVariants.{Found, Refused}
 
 pub record CountFits (s : ℕ) : Type 0 where
   pub at_least : 1 ≤ s
@@ -29,18 +30,18 @@ RoomFits L out = length L ≤ length out
 abbrev pub Solvable : ℕ → List ℕ → List ℤ → Type 0
 Solvable s L xs = (ws : List ℤ) × Solution s L xs ws
 
-pub record SolverClaim (s : ℕ) (L : List ℕ) (xs out : List ℤ) (r : Solved) (left : List ℤ) : Type 0 where
+pub record SolverClaim (s : ℕ) (L : List ℕ) (xs out : List ℤ) (r : Result (Unit {0}) Refusal) (left : List ℤ) : Type 0 where
   -- "s or n outside its limits, also s .. in the solver"
-  pub three : (r ≡ Refused 3) ↔ (CountFits s → ⊥)
+  pub three : (r ≡ Err WrongCount) ↔ (CountFits s → ⊥)
   -- "list not rising, over 64 long, a pattern above 3^s − 1, or not as many numbers as patterns"
-  pub eleven : (r ≡ Refused 11) ↔ (CountFits s × (ListFits s L xs → ⊥))
+  pub eleven : (r ≡ Err WrongList) ↔ (CountFits s × (ListFits s L xs → ⊥))
   -- "an output slice too short"
-  pub fifteen : (r ≡ Refused 15) ↔ (CountFits s × ListFits s L xs × (RoomFits L out → ⊥))
+  pub fifteen : (r ≡ Err TooShort) ↔ (CountFits s × ListFits s L xs × (RoomFits L out → ⊥))
   -- "no solution as above"
-  pub twelve : (r ≡ Refused 12) ↔ (CountFits s × ListFits s L xs × RoomFits L out × (Solvable s L xs → ⊥))
-  pub found : (r ≡ Found) ↔ (CountFits s × ListFits s L xs × RoomFits L out × Solvable s L xs)
+  pub twelve : (r ≡ Err NoSolution) ↔ (CountFits s × ListFits s L xs × RoomFits L out × (Solvable s L xs → ⊥))
+  pub found : (r ≡ Ok tt) ↔ (CountFits s × ListFits s L xs × RoomFits L out × Solvable s L xs)
   -- the numbers at the front, and "longer output slices keep what lies past the result"
-  pub written : (ws : List ℤ) → r ≡ Found → Solution s L xs ws → left ≡ ws ++ drop (length L) out
+  pub written : (ws : List ℤ) → r ≡ Ok tt → Solution s L xs ws → left ≡ ws ++ drop (length L) out
   -- a refusal leaves the slice as it was, and no other number refuses
-  pub kept : (m : ℕ) → r ≡ Refused m → left ≡ out
-  pub numbers : (m : ℕ) → r ≡ Refused m → Among (3 ∷ 11 ∷ 15 ∷ 12 ∷ []) m
+  pub kept : (e : Refusal) → r ≡ Err e → left ≡ out
+  pub numbers : (e : Refusal) → r ≡ Err e → Among (3 ∷ 11 ∷ 15 ∷ 12 ∷ []) (number_of e)

@@ -7,6 +7,7 @@ use native.Mathlib.Omega.{arith}
 use mathlib.Core.Path.{◌≡◌, refl, sym, ap, ap₂, subst, ◌∙◌}
 use mathlib.Core.Bool.{Bool, true, false, cond, not, ◌&&◌, ◌||◌}
 use mathlib.Core.List.{List}
+use Rattle.std.specs.Prelude.{Some, None}
 use borrow.Author.Tests.{leb-true, leb-false}
 use lib.Dec.{leb}
 use lib.IntN.{ℤ, pos, nat_abs, ◌+ℤ◌, +ℤ_idr}
@@ -164,7 +165,7 @@ combining_first x y u v n =
 
 pub combining_next : (x y : ℕ → ℤ) (u₀ v₀ u v : List ℤ) (s t : ℕ) (odd odd' : Bool) (n k a b : ℕ) (p q : ℤ)
     → Combining x y u₀ v₀ u v s t odd n k → k < n → length u₀ ≡ n → length v₀ ≡ n
-    → odd' ≡ (odd || is_odd (x k)) || is_odd (y k)
+    → odd' ≡ odd || (is_odd (x k) || is_odd (y k))
     → a ≡ nat_abs (x k) → b ≡ nat_abs (y k) → p ≡ shr_z (x k) 2 → q ≡ shr_z (y k) 2
     → Combining x y u₀ v₀ (set u k p) (set v k q) (s + a) (t + b) odd' n (k + 1)
 unfolding any_below
@@ -173,12 +174,8 @@ combining_next x y u₀ v₀ u v s t odd odd' n k a b p q C h lu lv eo ea eb ep 
       place = omega arith;
       one = halving_next x u₀ u s k a p C.one (omega arith) ea ep;
       other = halving_next y v₀ v t k b q C.other (omega arith) eb eq;
-      odds = eo ∙ grouped odd (is_odd (x k)) (is_odd (y k)) ∙ rw (add-one k, C.odds) refl;
+      odds = eo ∙ rw (add-one k, C.odds) refl;
     }
-  where
-    grouped : (a b c : Bool) → (a || b) || c ≡ a || (b || c)
-    grouped true b c = refl
-    grouped false b c = refl
 
 -- twice the number of a pattern
 abbrev pub doubled_at : ℕ → List ℕ → List ℕ → List ℤ → List ℤ → List ℤ → ℕ → ℤ
@@ -242,7 +239,7 @@ module _ (w : ℕ) (L at : List ℕ) (d e g d₂ e₂ g₂ : List ℤ) where
 
   pub combining_last : (u₀ v₀ u v : List ℤ) (s t : ℕ) (odd : Bool) (k : ℕ) → Combining x y u₀ v₀ u v s t odd (length L) k
       → length L ≤ k → length u₀ ≡ length L → length v₀ ≡ length L → (b : Bool) → b ≡ not odd && (leb s 128 && leb t 128)
-      → CombinedBoth w L at d e g d₂ e₂ g₂ u v b
+      → CombinedBoth w L at d e g d₂ e₂ g₂ u v (cond b (Some tt) None)
   combining_last u₀ v₀ u v s t odd k C h lu lv b eb = rw eb (go odd (leb s 128) (leb t 128) refl refl refl)
     where
       either : ℕ → Bool
@@ -257,7 +254,7 @@ module _ (w : ℕ) (L at : List ℕ) (d e g d₂ e₂ g₂ : List ℤ) where
       refused us vs F G j q true t r = fitting_even w L at d e g us F j q t
       refused us vs F G j q false t r = fitting_even w L at d₂ e₂ g₂ vs G j q r
 
-      go : (o p q : Bool) → odd ≡ o → leb s 128 ≡ p → leb t 128 ≡ q → CombinedBoth w L at d e g d₂ e₂ g₂ u v (not o && (p && q))
+      go : (o p q : Bool) → odd ≡ o → leb s 128 ≡ p → leb t 128 ≡ q → CombinedBoth w L at d e g d₂ e₂ g₂ u v (cond (not o && (p && q)) (Some tt) None)
       go true p q eo ep eq =
           λ us vs F G.
           let (j, l, r) = some_which either (length L) (sym end.odds ∙ eo) in

@@ -5,7 +5,7 @@
 -- + less −, g of + and −. A mark says with which signs q stands: 1 for 0, 2 for +, 4 for −, added up.
 --
 --   most_moment                  == 256, more than any moment's absolute value
---   CopiedWithin n x o b        == b says whether each number of x is in −n .. n; if so, o holds them
+--   CopiedWithin n x o r        == r is Some where each number of x is in −n .. n, and then o holds them; else None
 --   second_of m d                == e of a pattern with one sign, from d; 0 with more, where it is not known
 --   third_of m d e               == g of a pattern with one or two signs, from d and e; 0 with three
 --   Second m d e                == e holds the known second moments of the patterns with the marks m and the first moments d
@@ -19,9 +19,9 @@
 --   doubled_of c d e g           == twice the number of a pattern with last digit c, from the moments of its low part
 --   is_odd x                     == the test that x is odd
 --   Fitting w L at d e g ws     == ws are the whole numbers of the patterns L, one each, and their absolute values add up to at most 64
---   CombinedBoth w L at d e g d₂ e₂ g₂ u v b == b says whether the patterns L have such numbers from the moments d, e, g and from d₂, e₂,
---                                  g₂; if so, u and v hold them
-use Rattle.std.specs.Prelude.{◌≡◌, Bool, true, false, cond, not, List, [], ◌∷◌, ℕ, zero, suc, ◌+◌, ◌*◌, ◌/◌, ◌%◌, ◌<◌, ◌≤◌, eqb, leb, ℤ}
+--   CombinedBoth w L at d e g d₂ e₂ g₂ u v r == r is Some where the patterns L have such numbers from the moments d, e, g and from d₂, e₂,
+--                                  g₂, and then u and v hold them; else None
+use Rattle.std.specs.Prelude.{◌≡◌, Bool, cond, not, Option, Some, None, List, [], ◌∷◌, ℕ, zero, suc, ◌+◌, ◌*◌, ◌/◌, ◌%◌, ◌<◌, ◌≤◌, eqb, leb, ℤ}
 use Rattle.std.specs.Prelude.{pos, ◌+ℤ◌, ◌-ℤ◌, length, get_or, set}
 use Rattle.refusals.specs.Limits.{most_points}
 use Rattle.integers.specs.Sums.{sum_abs, Within}
@@ -31,9 +31,9 @@ use Rattle.adapted.specs.Split.{count_of}
 abbrev pub most_moment : ℕ
 most_moment = 4 * most_points
 
-abbrev pub CopiedWithin : ℕ → List ℤ → List ℤ → Bool → Type 0
-CopiedWithin n x o true = Within n x × (o ≡ x)
-CopiedWithin n x o false = Within n x → ⊥
+abbrev pub CopiedWithin : ℕ → List ℤ → List ℤ → Option (Unit {0}) → Type 0
+CopiedWithin n x o (Some _) = Within n x × (o ≡ x)
+CopiedWithin n x o None = Within n x → ⊥
 
 unfoldable pub second_of : ℕ → ℤ → ℤ
 second_of m d = cond (eqb m 2) d (cond (eqb m 4) (pos 0 -ℤ d) (pos 0))
@@ -83,6 +83,6 @@ pub record Fitting (w : ℕ) (L at : List ℕ) (d e g ws : List ℤ) : Type 0 wh
   pub numbers : (k : ℕ) → k < length L → NumberAt w L at d e g k (get_or ws k (pos 0))
   pub small : sum_abs ws ≤ most_points
 
-abbrev pub CombinedBoth : ℕ → List ℕ → List ℕ → List ℤ → List ℤ → List ℤ → List ℤ → List ℤ → List ℤ → List ℤ → List ℤ → Bool → Type 0
-CombinedBoth w L at d e g d₂ e₂ g₂ u v true = Fitting w L at d e g u × Fitting w L at d₂ e₂ g₂ v
-CombinedBoth w L at d e g d₂ e₂ g₂ u v false = (us vs : List ℤ) → Fitting w L at d e g us → Fitting w L at d₂ e₂ g₂ vs → ⊥
+abbrev pub CombinedBoth : ℕ → List ℕ → List ℕ → List ℤ → List ℤ → List ℤ → List ℤ → List ℤ → List ℤ → List ℤ → List ℤ → Option (Unit {0}) → Type 0
+CombinedBoth w L at d e g d₂ e₂ g₂ u v (Some _) = Fitting w L at d e g u × Fitting w L at d₂ e₂ g₂ v
+CombinedBoth w L at d e g d₂ e₂ g₂ u v None = (us vs : List ℤ) → Fitting w L at d e g us → Fitting w L at d₂ e₂ g₂ vs → ⊥

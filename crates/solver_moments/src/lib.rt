@@ -11,11 +11,10 @@ ghost use Rattle.adapted.specs.Split.{count_of};
 ghost use Rattle.solver_moments.specs.Moments.{most_moment, CopiedWithin, second_of, third_of, Second, Third, rank, Spread, put_one, doubled_of, is_odd, CombinedBoth};
 
 use adapted::count;
-use integers::{magnitude, minus, narrow, plus, wide};
 use refusals::MOST_POINTS;
 
 // The largest absolute value that a number may have, and what the absolute values of a solution may add up to.
-const LIMIT: u64 = MOST_POINTS as u64;
+const LIMIT: i64 = MOST_POINTS as i64;
 
 // What the absolute values of the doubles may add up to.
 const DOUBLE: u32 = 2 * (LIMIT as u32);
@@ -25,10 +24,11 @@ fn second_value(m: u8, d: i16) -> i16
     requires { nat_abs d ≤ most_moment }
     ensures { result ≡ second_of m d }
 {
-    if m == 2 {
-        return d;
+    match m {
+        2 => d,
+        4 => -d,
+        _ => 0,
     }
-    if m == 4 { minus(0, d) } else { 0 }
 }
 
 // The third moment of a pattern that stands with one or two signs, from the others and its mark; 0 where it stands with three.
@@ -39,10 +39,11 @@ fn third_value(m: u8, d: i16, e: i16) -> i16
     if m % 2 == 0 {
         return d;
     }
-    if m == 3 {
-        return e;
+    match m {
+        3 => e,
+        5 => -e,
+        _ => 0,
     }
-    if m == 5 { minus(0, e) } else { 0 }
 }
 
 // Writes the known second moments to e.
@@ -50,12 +51,8 @@ pub fn second(mark: &[u8], d: &[i16], e: &mut [i16])
     requires { (length d.now ≡ length mark.now) × (length e.old ≡ length mark.now) × Within most_moment d.now }
     ensures { Second mark.now d.now e.new }
 {
-    let mut j = 0;
-    while j < mark.len() {
-        let x = d[j];
-        let y = second_value(mark[j], x);
-        e[j] = y;
-        j += 1;
+    for (j, m) in mark.iter().enumerate() {
+        e[j] = second_value(*m, d[j]);
     }
 }
 
@@ -64,59 +61,33 @@ pub fn third(mark: &[u8], d: &[i16], e: &[i16], g: &mut [i16])
     requires { (length d.now ≡ length mark.now) × (length e.now ≡ length mark.now) × (length g.old ≡ length mark.now) × Within most_moment e.now }
     ensures { Third mark.now d.now e.now g.new }
 {
-    let mut j = 0;
-    while j < mark.len() {
-        let x = d[j];
-        let y = e[j];
-        let z = third_value(mark[j], x, y);
-        g[j] = z;
-        j += 1;
+    for (j, m) in mark.iter().enumerate() {
+        g[j] = third_value(*m, d[j], e[j]);
     }
 }
 
-// Copies x to the front of out.
-pub fn copy(x: &[i16], out: &mut [i16])
-    requires { length x.now ≤ length out.old }
-    ensures { out.new ≡ x.now ++ drop (length x.now) out.old }
-{
-    let mut k = 0;
-    while k < x.len() {
-        let y = x[k];
-        out[k] = y;
-        k += 1;
-    }
-}
-
-// The same to numbers of 64 bits.
+// Copies x to the front of out, as numbers of 64 bits.
 pub fn copy_wide(x: &[i16], out: &mut [i64])
     requires { length x.now ≤ length out.old }
     ensures { out.new ≡ x.now ++ drop (length x.now) out.old }
 {
-    let mut k = 0;
-    while k < x.len() {
-        let y = x[k];
-        let z = wide(y);
-        out[k] = z;
-        k += 1;
+    for (k, y) in x.iter().enumerate() {
+        out[k] = i64::from(*y);
     }
 }
 
-// Copies x to out where every number lies in −64 .. 64, or says that one does not.
-pub fn copy_small(x: &[i64], out: &mut [i16]) -> bool
+// Copies x to out where every number lies in −64 .. 64. None where one does not.
+pub fn copy_small(x: &[i64], out: &mut [i16]) -> Option<()>
     requires { length out.old ≡ length x.now }
     ensures { CopiedWithin most_points x.now out.new result }
 {
-    let mut k = 0;
-    while k < x.len() {
-        let y = x[k];
-        if LIMIT < magnitude(y) {
-            return false;
+    for (k, y) in x.iter().enumerate() {
+        if !(-LIMIT..=LIMIT).contains(y) {
+            return None;
         }
-        let z = narrow(y);
-        out[k] = z;
-        k += 1;
+        out[k] = *y as i16;
     }
-    true
+    Some(())
 }
 
 // Adds the number of f at n to v at j where the mark m has at least k signs. Returns where the next one of f is.
@@ -126,10 +97,7 @@ fn put_one(m: u8, k: usize, f: &[i16], n: usize, v: &mut [i16], j: usize) -> usi
     ensures v_after { v.new ≡ put_one (leb k (count_of m)) v.old j (get_or v.old j (pos 0) +ℤ get_or f.now n (pos 0)) }
 {
     if k <= count(m) {
-        let x = v[j];
-        let y = f[n];
-        let z = plus(x, y);
-        v[j] = z;
+        v[j] += f[n];
         return n + 1;
     }
     n
@@ -142,10 +110,8 @@ pub fn put(mark: &[u8], k: usize, f: &[i16], v: &mut [i16])
     ensures { Spread k mark.now f.now v.old v.new }
 {
     let mut n = 0;
-    let mut j = 0;
-    while j < mark.len() {
-        n = put_one(mark[j], k, f, n, v, j);
-        j += 1;
+    for (j, m) in mark.iter().enumerate() {
+        n = put_one(*m, k, f, n, v, j);
     }
 }
 
@@ -155,47 +121,20 @@ fn doubled(q: u16, w: u16, j: usize, d: &[i16], e: &[i16], g: &[i16]) -> i16
     requires within { Within most_moment d.now × Within most_moment e.now × Within most_moment g.now }
     ensures { result ≡ doubled_of (q / w) (get_or d.now j (pos 0)) (get_or e.now j (pos 0)) (get_or g.now j (pos 0)) }
 {
-    let x = d[j];
-    let y = e[j];
-    let z = g[j];
     if q < w {
-        let n = minus(x, z);
-        return plus(n, n);
+        return 2 * (d[j] - g[j]);
     }
-    if q - w < w { plus(z, y) } else { minus(z, y) }
+    if q - w < w { g[j] + e[j] } else { g[j] - e[j] }
 }
 
-// The absolute value of x.
-fn absolute(x: i16) -> u32
-    requires { nat_abs x ≤ 4 * most_moment }
-    ensures { result ≡ nat_abs x }
+// Whether x is odd.
+fn is_odd(x: i16) -> bool
+    ensures { result ≡ is_odd x }
 {
-    if x < 0 {
-        let y = 0 - x;
-        y as u32
-    } else {
-        x as u32
-    }
+    x % 2 != 0
 }
 
-// Whether a number was odd so far, with one more.
-fn still_odd(odd: bool, x: i16) -> bool
-    ensures { result ≡ (odd || is_odd x) }
-{
-    if x % 2 == 0 {
-        return odd;
-    }
-    true
-}
-
-// Half of x, rounded down.
-fn half(x: i16) -> i16
-    ensures { result ≡ shr_z x 2 }
-{
-    x >> 1
-}
-
-// Writes the numbers of the patterns l to u and v, from the moments of two systems. False where one is not whole, or the absolute values of a
+// Writes the numbers of the patterns l to u and v, from the moments of two systems. None where one is not whole, or the absolute values of a
 // system add up to more than 64. The loop passes all patterns, with the doubles of their numbers, and what is wrong is said after it.
 pub fn combine_pair(
     l: &[u16],
@@ -209,7 +148,7 @@ pub fn combine_pair(
     g2: &[i16],
     u: &mut [i16],
     v: &mut [i16],
-) -> bool
+) -> Option<()>
     requires below { Below (3 * w) l.now × (length at.now ≡ length l.now) × (length u.old ≡ length l.now) × (length v.old ≡ length l.now) × Below (length d.now) at.now × (length l.now ≤ most_points) }
     requires e_len { (length e.now ≡ length d.now) × (length g.now ≡ length d.now) × (length d2.now ≡ length d.now) × (length e2.now ≡ length d.now) × (length g2.now ≡ length d.now) × Within most_moment d.now × Within most_moment e.now × Within most_moment g.now × Within most_moment d2.now × Within most_moment e2.now × Within most_moment g2.now }
     ensures { CombinedBoth w l.now at.now d.now e.now g.now d2.now e2.now g2.now u.new v.new result }
@@ -217,26 +156,18 @@ pub fn combine_pair(
     let mut sum: u32 = 0;
     let mut sum2: u32 = 0;
     let mut odd = false;
-    let mut k = 0;
-    while k < l.len() {
+    for (k, q) in l.iter().enumerate() {
         let j = at[k] as usize;
-        let q = l[k];
-        let x = doubled(q, w, j, d, e, g);
-        let y = doubled(q, w, j, d2, e2, g2);
-        odd = still_odd(still_odd(odd, x), y);
-        sum += absolute(x);
-        sum2 += absolute(y);
-        let a = half(x);
-        u[k] = a;
-        let b = half(y);
-        v[k] = b;
-        k += 1;
+        let x = doubled(*q, w, j, d, e, g);
+        let y = doubled(*q, w, j, d2, e2, g2);
+        odd |= is_odd(x) | is_odd(y);
+        sum += u32::from(x.unsigned_abs());
+        sum2 += u32::from(y.unsigned_abs());
+        u[k] = x >> 1;
+        v[k] = y >> 1;
     }
-    if odd {
-        return false;
+    if odd || DOUBLE < sum || DOUBLE < sum2 {
+        return None;
     }
-    if DOUBLE < sum {
-        return false;
-    }
-    sum2 <= DOUBLE
+    Some(())
 }

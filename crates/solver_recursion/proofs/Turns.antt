@@ -2,6 +2,7 @@
 use mathlib.Core.Path.{◌≡◌, refl, sym, ap, ◌∙◌, subst}
 use mathlib.Core.Logic.{◌↔◌}
 use mathlib.Core.Bool.{Bool, true, false, cond}
+use Rattle.std.specs.Prelude.{Option, Some, None}
 use mathlib.Core.List.{List, [], ◌∷◌, ◌++◌}
 use Prim.Native.Nat.{ℕ, zero, suc, ◌+◌, ◌*◌, ◌-◌, ◌^◌, ◌%◌, ◌<◌, ◌≤◌}
 use native.Mathlib.Omega.{arith}
@@ -119,7 +120,7 @@ spread_none k m v =
     nothing true (suc j) = refl
     nothing false j = refl
 
-pub moment_none : (i : ℕ) (l m : List ℕ) (k : ℕ) (r t v w : List ℤ) → length l ≡ 0 → r ≡ [] → t ≡ [] → PutBoth i l m k r t v w v w true
+pub moment_none : (i : ℕ) (l m : List ℕ) (k : ℕ) (r t v w : List ℤ) → length l ≡ 0 → r ≡ [] → t ≡ [] → PutBoth i l m k r t v w v w (Some tt)
 moment_none i [] m k r t v w h e f = (([], rw e nothing, spread_none k m v), ([], rw f nothing, spread_none k m w))
   where
     nothing : Solution i [] [] []
@@ -138,18 +139,18 @@ both_too_large i l r t f fs hs S T = f (solution_small i l r fs S) (solution_sma
 
 -- ---- a turn, over the lists that the code holds
 
-abbrev None : ℕ → List ℕ → List ℤ → Type 0
-None i L x = (ws : List ℤ) → Solution i L x ws → ⊥
+abbrev Unsolved : ℕ → List ℕ → List ℤ → Type 0
+Unsolved i L x = (ws : List ℤ) → Solution i L x ws → ⊥
 
 pub record Turn (i : ℕ) (L l l₂ l₃ m at : List ℕ) (x : List ℤ) : Type 0 where
-  pub no_first : None i l (take (length l) x) → None (suc i) L x
+  pub no_first : Unsolved i l (take (length l) x) → Unsolved (suc i) L x
   pub no_second : (d e₀ : List ℤ) → Solution i l (take (length l) x) d → length e₀ ≡ length l → Second m d e₀
-      → None i l₂ (residuals i l e₀ (adapted i l₂) (between (length l) (length l + length l₂) x)) → None (suc i) L x
+      → Unsolved i l₂ (residuals i l e₀ (adapted i l₂) (between (length l) (length l + length l₂) x)) → Unsolved (suc i) L x
   pub no_third : (d e₀ f e g₀ : List ℤ) → Solution i l (take (length l) x) d → length e₀ ≡ length l → Second m d e₀
       → Solution i l₂ (residuals i l e₀ (adapted i l₂) (between (length l) (length l + length l₂) x)) f → length e ≡ length l
       → Spread 2 m f e₀ e
       → length g₀ ≡ length l → Third m d e g₀
-      → None i l₃ (residuals i l g₀ (adapted i l₃) (between (length l + length l₂) (length x) x)) → None (suc i) L x
+      → Unsolved i l₃ (residuals i l g₀ (adapted i l₃) (between (length l + length l₂) (length x) x)) → Unsolved (suc i) L x
   -- the numbers of a solution are those that the moments give, and numbers that the moments give are a solution
   pub last : (d e₀ f e g₀ h g ws : List ℤ) → Solution i l (take (length l) x) d → length e₀ ≡ length l → Second m d e₀
       → Solution i l₂ (residuals i l e₀ (adapted i l₂) (between (length l) (length l + length l₂) x)) f → length e ≡ length l
@@ -294,7 +295,7 @@ module _ (i : ℕ) (l m : List ℕ) (x y : List ℤ) where
       (L at : List ℕ) → Posed (suc i) L x → Posed (suc i) L y → length L ≤ 64 → Parted i L l m at
       → (us vs : List ℤ) → Solution (suc i) L x us → Solution (suc i) L y vs → ⊥
 
-  pub none_first : SolvesBoth i l (take (length l) x) (take (length l) y) x y false → NoMoments
+  pub none_first : SolvesBoth i l (take (length l) x) (take (length l) y) x y None → NoMoments
   none_first f L at P P' n Q =
       neither (room i L l m at x P Q).turns.no_first (room i L l m at y P' Q).turns.no_first f
 
@@ -319,9 +320,9 @@ module _ (i : ℕ) (l m : List ℕ) (x y : List ℤ) where
       abbrev pub t₃ : List ℤ
       t₃ = residuals i l g₀' (adapted i (chosen 3 l m)) (asked₃ l m y)
 
-      pub with_third : (g g' : List ℤ) (b : Bool) → length g ≡ length l → length g' ≡ length l
+      pub with_third : (g g' : List ℤ) (b : Option (Unit {0})) → length g ≡ length l → length g' ≡ length l
           → PutBoth i (chosen 3 l m) m 3 r₃ t₃ g₀ g₀' g g' b → MomentsBoth i l m x y d e g d' e' g' b
-      with_third g g' true n n' ((h, S₃, P), (h', S₃', P')) = (
+      with_third g g' (Some _) n n' ((h, S₃, P), (h', S₃', P')) = (
         record {
           first = S;
           e₀ = e₀;
@@ -357,7 +358,7 @@ module _ (i : ℕ) (l m : List ℕ) (x y : List ℤ) where
           put₃ = P';
         },
       )
-      with_third g g' false n n' none =
+      with_third g g' None n n' none =
           λ L at P P' s Q. neither ((room i L l m at x P Q).turns.no_third d e₀ f e g₀ S le K S₂ k G lg H)
           ((room i L l m at y P' Q).turns.no_third d' e₀' f' e' g₀' S' le' K' S₂' k' G' lg' H') none
 
@@ -368,12 +369,12 @@ by_moments i L l m at x d e g ws P Q M =
     (room i L l m at x P Q).turns.last d M.e₀ M.f e M.g₀ M.h g ws M.first M.long_e₀ M.second M.solved₂ M.long_e
     M.put₂ M.long_g₀ M.third M.solved₃ M.long_g M.put₃
 
-pub combined : (i : ℕ) (L l m at : List ℕ) (x y d e g d' e' g' u v : List ℤ) (b : Bool) → Posed (suc i) L x → Posed (suc i) L y
+pub combined : (i : ℕ) (L l m at : List ℕ) (x y d e g d' e' g' u v : List ℤ) (b : Option (Unit {0})) → Posed (suc i) L x → Posed (suc i) L y
     → Parted i L l m at → Moments i l m x d e g → Moments i l m y d' e' g'
     → CombinedBoth (3 ^ i) L at d e g d' e' g' u v b → SolvesBoth (suc i) L x y u v b
-combined i L l m at x y d e g d' e' g' u v true P P' Q M M' (F, F') =
+combined i L l m at x y d e g d' e' g' u v (Some _) P P' Q M M' (F, F') =
     ((by_moments i L l m at x d e g u P Q M).1 F, (by_moments i L l m at y d' e' g' v P' Q M').1 F')
-combined i L l m at x y d e g d' e' g' u v false P P' Q M M' f =
+combined i L l m at x y d e g d' e' g' u v None P P' Q M M' f =
     λ us vs S S'. f us vs ((by_moments i L l m at x d e g us P Q M).0 S) ((by_moments i L l m at y d' e' g' vs P' Q M').0 S')
 
 -- moments are small

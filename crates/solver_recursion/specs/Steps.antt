@@ -11,7 +11,7 @@
 --   MomentsBoth i l m x y d e g d' e' g' b
 --                                    == b is true where d, e, g are the moments for x, and d', e', g' those for y; where it is false, no
 --                                       list whose patterns left are l, with the marks m, has a solution for x and one for y
-use Rattle.std.specs.Prelude.{◌≡◌, Bool, true, false, List, ℕ, suc, ◌+◌, ◌-◌, ◌%◌, ◌^◌, ◌<◌, ◌≤◌, ℤ, length, get_or, take, drop}
+use Rattle.std.specs.Prelude.{◌≡◌, Option, Some, None, List, ℕ, suc, ◌+◌, ◌-◌, ◌%◌, ◌^◌, ◌<◌, ◌≤◌, ℤ, length, get_or, take, drop}
 use Rattle.refusals.specs.Limits.{most_points}
 use Rattle.signs.specs.Adapted.{restrictions, adapted}
 use Rattle.signs.specs.Lists.{Below}
@@ -20,9 +20,9 @@ use Rattle.solver_moments.specs.Moments.{Second, Third, Spread}
 use Rattle.solver_residuals.specs.Residuals.{residuals}
 use Rattle.solutions.specs.Solution.{Posed, Solution}
 
-abbrev pub SolvesBoth : ℕ → List ℕ → (x y u v : List ℤ) → Bool → Type 0
-SolvesBoth s L x y u v true = Solution s L x u × Solution s L y v
-SolvesBoth s L x y u v false = (us vs : List ℤ) → Solution s L x us → Solution s L y vs → ⊥
+abbrev pub SolvesBoth : ℕ → List ℕ → (x y u v : List ℤ) → Option (Unit {0}) → Type 0
+SolvesBoth s L x y u v (Some _) = Solution s L x u × Solution s L y v
+SolvesBoth s L x y u v None = (us vs : List ℤ) → Solution s L x us → Solution s L y vs → ⊥
 
 pub record Parted (i : ℕ) (L l m at : List ℕ) : Type 0 where
   pub left : l ≡ restrictions 1 i L
@@ -61,13 +61,13 @@ pub record Moments (i : ℕ) (l m : List ℕ) (x d e g : List ℤ) : Type 0 wher
   pub long_g : length g ≡ length l
   pub put₃ : Spread 3 m h g₀ g
 
-abbrev pub PutBoth : ℕ → (l m : List ℕ) → ℕ → (r t v w v' w' : List ℤ) → Bool → Type 0
-PutBoth i l m k r t v w v' w' true =
+abbrev pub PutBoth : ℕ → (l m : List ℕ) → ℕ → (r t v w v' w' : List ℤ) → Option (Unit {0}) → Type 0
+PutBoth i l m k r t v w v' w' (Some _) =
     ((f : List ℤ) × Solution i l r f × Spread k m f v v') × ((f : List ℤ) × Solution i l t f × Spread k m f w w')
-PutBoth i l m k r t v w v' w' false = (fs hs : List ℤ) → Solution i l r fs → Solution i l t hs → ⊥
+PutBoth i l m k r t v w v' w' None = (fs hs : List ℤ) → Solution i l r fs → Solution i l t hs → ⊥
 
-abbrev pub MomentsBoth : ℕ → (l m : List ℕ) → (x y d e g d' e' g' : List ℤ) → Bool → Type 0
-MomentsBoth i l m x y d e g d' e' g' true = Moments i l m x d e g × Moments i l m y d' e' g'
-MomentsBoth i l m x y d e g d' e' g' false =
+abbrev pub MomentsBoth : ℕ → (l m : List ℕ) → (x y d e g d' e' g' : List ℤ) → Option (Unit {0}) → Type 0
+MomentsBoth i l m x y d e g d' e' g' (Some _) = Moments i l m x d e g × Moments i l m y d' e' g'
+MomentsBoth i l m x y d e g d' e' g' None =
     (L at : List ℕ) → Posed (suc i) L x → Posed (suc i) L y → length L ≤ most_points → Parted i L l m at
     → (us vs : List ℤ) → Solution (suc i) L x us → Solution (suc i) L y vs → ⊥

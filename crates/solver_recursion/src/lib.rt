@@ -21,31 +21,43 @@ use signs::power;
 use solver_moments::{combine_pair, put, second, third};
 use solver_residuals::residuals;
 
-// The numbers of the patterns l of i polynomials whose queries on the adapted list are x, and those for y. False where one of the two has none whose
+// The numbers of the patterns l of i polynomials whose queries on the adapted list are x, and those for y. None where one of the two has none whose
 // absolute values add up to at most 64. Those of inner numbers never add up to more, so that a list is refused where one inside it is.
 #[cycle(solving)]
-pub fn solve_pair(l: &[u16], i: usize, x: &[i16], y: &[i16], u: &mut [i16], v: &mut [i16]) -> bool
+pub fn solve_pair(
+    l: &[u16],
+    i: usize,
+    x: &[i16],
+    y: &[i16],
+    u: &mut [i16],
+    v: &mut [i16],
+) -> Option<()>
     requires i_le_most_polynomials { (i ≤ most_polynomials) × Rising l.now × Below (3 ^ i) l.now × (length l.now ≤ most_points) }
     requires x_len { (length x.now ≡ length l.now) × (length y.now ≡ length l.now) × (length u.old ≡ length l.now) × (length v.old ≡ length l.now) }
     requires within { Within most_points x.now × Within most_points y.now }
     ensures { SolvesBoth i l.now x.now y.now u.new v.new result }
 {
     if l.len() == 0 {
-        return true;
+        return Some(());
     }
     if l.len() == 1 {
-        let a = x[0];
-        let b = y[0];
-        u[0] = a;
-        v[0] = b;
-        return true;
+        u[0] = x[0];
+        v[0] = y[0];
+        return Some(());
     }
     solve_split(l, i - 1, x, y, u, v)
 }
 
 // The same for at least two patterns of i + 1 polynomials.
 #[cycle(solving)]
-fn solve_split(l: &[u16], i: usize, x: &[i16], y: &[i16], u: &mut [i16], v: &mut [i16]) -> bool
+fn solve_split(
+    l: &[u16],
+    i: usize,
+    x: &[i16],
+    y: &[i16],
+    u: &mut [i16],
+    v: &mut [i16],
+) -> Option<()>
     requires i_lt_most_polynomials { (i < most_polynomials) × Rising l.now × Below (3 ^ suc i) l.now × (length l.now ≤ most_points) }
     requires x_len { (length x.now ≡ length l.now) × (length y.now ≡ length l.now) × (length u.old ≡ length l.now) × (length v.old ≡ length l.now) }
     requires within { Within most_points x.now × Within most_points y.now }
@@ -73,7 +85,7 @@ fn solve_low(
     at: &[u8],
     u: &mut [i16],
     v: &mut [i16],
-) -> bool
+) -> Option<()>
     requires i_lt_most_polynomials { (i < most_polynomials) × (w ≡ 3 ^ i) × Rising l.now × Below (3 ^ suc i) l.now × (length l.now ≤ most_points) }
     requires x_len { (length x.now ≡ length l.now) × (length y.now ≡ length l.now) × (length u.old ≡ length l.now) × (length v.old ≡ length l.now) }
     requires within { Within most_points x.now × Within most_points y.now }
@@ -87,7 +99,7 @@ fn solve_low(
     let mut d2 = [0i16; MOST_POINTS];
     let mut e2 = [0i16; MOST_POINTS];
     let mut g2 = [0i16; MOST_POINTS];
-    if !find_moments(
+    find_moments(
         i,
         x,
         y,
@@ -99,9 +111,7 @@ fn solve_low(
         &mut d2[..n],
         &mut e2[..n],
         &mut g2[..n],
-    ) {
-        return false;
-    }
+    )?;
     combine_pair(
         l,
         w,
@@ -117,27 +127,16 @@ fn solve_low(
     )
 }
 
-// The number n, and one more where the mark has at least two signs.
-fn more(n: usize, m: u8) -> usize
-    requires { (n < 65536) × (m < 8) }
-    ensures { result ≡ n + cond (leb 2 (count_of m)) 1 0 }
-{
-    if 2 <= count(m) {
-        return n + 1;
-    }
-    n
-}
-
 // How many marks have at least two signs.
 fn shared(mark: &[u8]) -> usize
     requires { Below 8 mark.now × (length mark.now ≤ most_points) }
     ensures { result ≡ rank 2 mark.now (length mark.now) }
 {
     let mut n = 0;
-    let mut j = 0;
-    while j < mark.len() {
-        n = more(n, mark[j]);
-        j += 1;
+    for m in mark {
+        if 2 <= count(*m) {
+            n += 1;
+        }
     }
     n
 }
@@ -156,7 +155,7 @@ fn find_moments(
     d2: &mut [i16],
     e2: &mut [i16],
     g2: &mut [i16],
-) -> bool
+) -> Option<()>
     requires i_lt_most_polynomials { (i < most_polynomials) × Rising low.now × Below (3 ^ i) low.now × (length low.now ≤ most_points) × (length mark.now ≡ length low.now) × Below 8 mark.now }
     requires x_len { (length x.now ≡ length low.now + (length (chosen 2 low.now mark.now) + length (chosen 3 low.now mark.now))) × (length y.now ≡ length x.now) × Within most_points x.now × Within most_points y.now }
     requires d_len { (length d.old ≡ length low.now) × (length e.old ≡ length low.now) × (length g.old ≡ length low.now) × (length d2.old ≡ length low.now) × (length e2.old ≡ length low.now) × (length g2.old ≡ length low.now) }
@@ -164,14 +163,10 @@ fn find_moments(
 {
     let n = low.len();
     let m = n + shared(mark);
-    if !solve_pair(low, i, &x[..n], &y[..n], d, d2) {
-        return false;
-    }
+    solve_pair(low, i, &x[..n], &y[..n], d, d2)?;
     second(mark, d, e);
     second(mark, d2, e2);
-    if !moment(low, mark, 2, i, &x[n..m], &y[n..m], e, e2) {
-        return false;
-    }
+    moment(low, mark, 2, i, &x[n..m], &y[n..m], e, e2)?;
     third(mark, d, e, g);
     third(mark, d2, e2, g2);
     moment(low, mark, 3, i, &x[m..], &y[m..], g, g2)
@@ -188,7 +183,7 @@ fn moment(
     y: &[i16],
     v: &mut [i16],
     w: &mut [i16],
-) -> bool
+) -> Option<()>
     requires i_lt_most_polynomials { (i < most_polynomials) × Rising low.now × Below (3 ^ i) low.now × (length low.now ≤ most_points) × (length mark.now ≡ length low.now) × Below 8 mark.now }
     requires x_len { (length x.now ≡ length (chosen k low.now mark.now)) × (length y.now ≡ length x.now) × (length v.old ≡ length low.now) × (length w.old ≡ length low.now) }
     requires within { Within most_points x.now × Within most_points y.now × Within (2 * most_points) v.old × Within (2 * most_points) w.old }
@@ -196,15 +191,13 @@ fn moment(
 {
     let n = x.len();
     if n == 0 {
-        return true;
+        return Some(());
     }
     let mut l = [0u16; MOST_POINTS];
     let mut r = [0i16; MOST_POINTS];
     let mut t = [0i16; MOST_POINTS];
     having(low, mark, k, &mut l);
-    if !residuals(&l[..n], low, i, x, y, v, w, &mut r[..n], &mut t[..n]) {
-        return false;
-    }
+    residuals(&l[..n], low, i, x, y, v, w, &mut r[..n], &mut t[..n])?;
     put_moment(&l[..n], mark, k, i, &r[..n], &t[..n], v, w)
 }
 
@@ -219,7 +212,7 @@ fn put_moment(
     t: &[i16],
     v: &mut [i16],
     w: &mut [i16],
-) -> bool
+) -> Option<()>
     requires i_lt_most_polynomials { (i < most_polynomials) × Rising l.now × Below (3 ^ i) l.now × (length l.now ≤ most_points) × Below 8 mark.now × (length mark.now ≤ most_points) }
     requires l_len { (length l.now ≡ rank k mark.now (length mark.now)) × (length r.now ≡ length l.now) × (length t.now ≡ length l.now) × (length v.old ≡ length mark.now) × (length w.old ≡ length mark.now) }
     requires within { Within most_points r.now × Within most_points t.now × Within (2 * most_points) v.old × Within (2 * most_points) w.old }
@@ -228,10 +221,8 @@ fn put_moment(
     let n = l.len();
     let mut f = [0i16; MOST_POINTS];
     let mut h = [0i16; MOST_POINTS];
-    if !solve_pair(l, i, r, t, &mut f[..n], &mut h[..n]) {
-        return false;
-    }
+    solve_pair(l, i, r, t, &mut f[..n], &mut h[..n])?;
     put(mark, k, &f[..n], v);
     put(mark, k, &h[..n], w);
-    true
+    Some(())
 }

@@ -5,6 +5,7 @@ use native.Mathlib.Numerals.{add-one}
 use native.Mathlib.Omega.{arith}
 use mathlib.Core.Path.{◌≡◌, refl, sym, ap, ap₂, ◌∙◌}
 use mathlib.Core.Bool.{Bool, true, false, cond}
+use Rattle.std.specs.Prelude.{Option, Some, None}
 use mathlib.Core.List.{List, [], ◌∷◌, ◌++◌, append-nil}
 use borrow.Author.Tests.{leb-false}
 use lib.IntN.{ℤ, pos, nat_abs, ◌+ℤ◌, ◌-ℤ◌, ◌*ℤ◌, +ℤ_idl, +ℤ_idr, +ℤ_assoc, *ℤ-zero}
@@ -201,15 +202,10 @@ not_small i k a o t u x r z h e f S w =
 -- ---- remain
 
 -- nothing is known: the numbers are as they were
-pub copied-whole : (x r₀ r : List ℤ) → length r₀ ≡ length x → r ≡ x ++ drop (length x) r₀ → r ≡ x
-copied-whole x r₀ r e h = h ∙ rw (drop_of_length-le r₀ {i = length x} (omega arith)) (append-nil x)
-
-pub copied_rests : (i : ℕ) (a o t : List ℕ) (v x r₀ r : List ℤ) → length o ≡ 0 → length a ≡ length x → r ≡ x ++ drop (length x) r₀
-    → Subtracted i a o t v x r
+pub copied_rests : (i : ℕ) (a o t : List ℕ) (v x r : List ℤ) → length o ≡ 0 → r ≡ x → Subtracted i a o t v x r
 unfolding bit_sum
-copied_rests i a [] t v x r₀ r e l h =
-    record { at = λ k q. rw h (get_or-append x (drop (length x) r₀) (pos 0) k (omega arith) ∙ sym (+ℤ_idr (get_or x k (pos 0)))) }
-copied_rests i a (p ∷ o) t v x r₀ r e l h = absurd (omega arith)
+copied_rests i a [] t v x r e h = record { at = λ k q. rw h (sym (+ℤ_idr (get_or x k (pos 0)))) }
+copied_rests i a (p ∷ o) t v x r e h = absurd (omega arith)
 
 pub shift_zero : (l : List ℕ) → shift 0 l ≡ l
 unfolding shift
@@ -252,14 +248,14 @@ subtracted i c l' l o t v u x ri be lx G =
           (sym (G.sums (get_or (adapted i l') k 0) (below_at (3 ^ i) (adapted i l') (adapted-small i l') k h)));
     }
 
-pub left-over_both : (i c : ℕ) (l' l o t : List ℕ) (v w p q x y r s : List ℤ) (b : Bool) → Rising l' → Below (3 ^ i) l'
+pub left-over_both : (i c : ℕ) (l' l o t : List ℕ) (v w p q x y r s : List ℤ) (m : Option (Unit {0})) → Rising l' → Below (3 ^ i) l'
     → length x ≡ length l' → length y ≡ length l' → length r ≡ length l' → length s ≡ length l'
     → Gathered i l v c o t p → Gathered i l w c o t q
-    → SubtractedBoth i (adapted i l') (take c o) (take c t) (take c p) (take c q) x y r s b
-    → ResidualsBoth i l v w (adapted i l') x y r s b
-left-over_both i c l' l o t v w p q x y r s true ri be lx ly lr ls G H (S, T, wr, ws) =
+    → SubtractedBoth i (adapted i l') (take c o) (take c t) (take c p) (take c q) x y r s m
+    → ResidualsBoth i l v w (adapted i l') x y r s m
+left-over_both i c l' l o t v w p q x y r s (Some _) ri be lx ly lr ls G H (S, T, wr, ws) =
     (left_over i c l' l o t v p x r ri be lx lr G S, left_over i c l' l o t w q y s ri be ly ls H T, wr, ws)
-left-over_both i c l' l o t v w p q x y r s false ri be lx ly lr ls G H f =
+left-over_both i c l' l o t v w p q x y r s None ri be lx ly lr ls G H f =
     f (residuals i l v (adapted i l') x) (residuals i l w (adapted i l') y) (subtracted i c l' l o t v p x ri be lx G)
     (subtracted i c l' l o t w q y ri be ly H)
 

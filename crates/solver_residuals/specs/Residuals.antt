@@ -10,12 +10,12 @@
 --   Subtracted i a o t v x r == r is x less the `digit_sum` of each product of a
 --   Gathered i l v n o t u   == the first n of o, t, u hold the digits of patterns of l with their numbers of v, whose `digit_sum` is the
 --                               query
---   SubtractedBoth i a o t u v x y r s b
---                            == b says whether the numbers x with u, and y with v, less the `digit_sum` of each product of a, are in
---                               −64 .. 64; if so, r and s are they
---   ResidualsBoth i l v w A x y r s b
---                            == b says whether the residuals of x with v, and of y with w, are in −64 .. 64; if so, r and s are they
-use Rattle.std.specs.Prelude.{◌≡◌, Bool, true, false, ◌||◌, List, [], ◌∷◌, ℕ, ◌+◌, ◌^◌, ◌<◌, ◌≤◌, leb, ltb, ℤ, pos, nat_abs, ◌+ℤ◌, ◌-ℤ◌}
+--   SubtractedBoth i a o t u v x y r s m
+--                            == m is Some where the numbers x with u, and y with v, less the `digit_sum` of each product of a, are in
+--                               −64 .. 64, and then r and s are they; else None
+--   ResidualsBoth i l v w A x y r s m
+--                            == m is Some where the residuals of x with v, and of y with w, are in −64 .. 64, and then r and s are they; else None
+use Rattle.std.specs.Prelude.{◌≡◌, Bool, ◌||◌, Option, Some, None, List, [], ◌∷◌, ℕ, ◌+◌, ◌^◌, ◌<◌, ◌≤◌, leb, ltb, ℤ, pos, nat_abs, ◌+ℤ◌, ◌-ℤ◌}
 use Rattle.std.specs.Prelude.{◌*ℤ◌, length, get_or, take}
 use Rattle.refusals.specs.Limits.{most_points}
 use Rattle.integers.specs.Sums.{Within}
@@ -54,12 +54,12 @@ pub record Gathered (i : ℕ) (l : List ℕ) (v : List ℤ) (n : ℕ) (o t : Lis
   pub sums : (α : ℕ) → α < 3 ^ i → digit_sum i α (take n o) (take n t) (take n u) ≡ weighted i l v α
   pub small : (j : ℕ) → j < n → nat_abs (get_or u j (pos 0)) ≤ most_moment
 
-abbrev pub SubtractedBoth : ℕ → (a o t : List ℕ) → (u v x y r s : List ℤ) → Bool → Type 0
-SubtractedBoth i a o t u v x y r s true = Subtracted i a o t u x r × Subtracted i a o t v y s × Within most_points r × Within most_points s
-SubtractedBoth i a o t u v x y r s false =
+abbrev pub SubtractedBoth : ℕ → (a o t : List ℕ) → (u v x y r s : List ℤ) → Option (Unit {0}) → Type 0
+SubtractedBoth i a o t u v x y r s (Some _) = Subtracted i a o t u x r × Subtracted i a o t v y s × Within most_points r × Within most_points s
+SubtractedBoth i a o t u v x y r s None =
     (r' s' : List ℤ) → Subtracted i a o t u x r' → Subtracted i a o t v y s' → Within most_points r' → Within most_points s' → ⊥
 
-abbrev pub ResidualsBoth : ℕ → List ℕ → (v w : List ℤ) → List ℕ → (x y r s : List ℤ) → Bool → Type 0
-ResidualsBoth i l v w A x y r s true =
+abbrev pub ResidualsBoth : ℕ → List ℕ → (v w : List ℤ) → List ℕ → (x y r s : List ℤ) → Option (Unit {0}) → Type 0
+ResidualsBoth i l v w A x y r s (Some _) =
     (r ≡ residuals i l v A x) × (s ≡ residuals i l w A y) × Within most_points r × Within most_points s
-ResidualsBoth i l v w A x y r s false = Within most_points (residuals i l v A x) → Within most_points (residuals i l w A y) → ⊥
+ResidualsBoth i l v w A x y r s None = Within most_points (residuals i l v A x) → Within most_points (residuals i l w A y) → ⊥

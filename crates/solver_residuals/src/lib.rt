@@ -13,27 +13,18 @@ ghost use Rattle.solver_moments.specs.Moments.{most_moment, put_one};
 ghost use Rattle.solver_residuals.specs.Residuals.{either0, is_small, bit_sum, Gathered, SubtractedBoth, ResidualsBoth};
 
 use adapted::adapted;
-use integers::{minus, plus, scale};
+use integers::scale;
 use refusals::MOST_POINTS;
 use signs::{DigitSets, digit_sets, sign_by};
-use solver_moments::copy;
 
-// The largest number that may remain, and the least.
+// The largest absolute value that may remain.
 const LIMIT: i16 = MOST_POINTS as i16;
-
-const LEAST: i16 = 0 - LIMIT;
 
 // Whether one of the two is not 0.
 fn counts(x: i16, y: i16) -> bool
     ensures { result ≡ either0 x y }
 {
-    if x != 0 {
-        return true;
-    }
-    if y != 0 {
-        return true;
-    }
-    false
+    x != 0 || y != 0
 }
 
 // Writes the digits of q to ones and twos and its numbers x and y to u and v, each at n, where one of the two is not 0. Returns where the next one goes.
@@ -84,18 +75,14 @@ fn gather(
     ensures gathered_2 { Gathered i l.now y.now result ones.new twos.new v.new }
 {
     let mut n = 0;
-    let mut j = 0;
-    while j < l.len() {
-        let a = x[j];
-        let b = y[j];
-        n = gather_one(l[j], i, a, b, ones, twos, u, v, n);
-        j += 1;
+    for (j, q) in l.iter().enumerate() {
+        n = gather_one(*q, i, x[j], y[j], ones, twos, u, v, n);
     }
     n
 }
 
 // The queries of one product in the two systems.
-#[derive(Clone, Copy)]
+#[derive(Clone, Copy, Debug, PartialEq, Eq)]
 pub struct Queries {
     pub first: i16,
     pub second: i16,
@@ -110,10 +97,7 @@ fn queries_by_digits(a: DigitSets, ones: &[u16], twos: &[u16], u: &[i16], v: &[i
 {
     let mut first: i16 = 0;
     let mut second: i16 = 0;
-    let mut j = 0;
-    while j < u.len() {
-        let x = u[j];
-        let y = v[j];
+    for j in 0..u.len() {
         let s = sign_by(
             a,
             DigitSets {
@@ -121,30 +105,20 @@ fn queries_by_digits(a: DigitSets, ones: &[u16], twos: &[u16], u: &[i16], v: &[i
                 twos: twos[j],
             },
         );
-        first = plus(first, scale(s, x));
-        second = plus(second, scale(s, y));
-        j += 1;
+        first += scale(s, u[j]);
+        second += scale(s, v[j]);
     }
-    Queries {
-        first: first,
-        second: second,
-    }
+    Queries { first, second }
 }
 
 // Whether a number lies in −64 .. 64.
 fn is_small(x: i16) -> bool
     ensures { result ≡ is_small x }
 {
-    if LIMIT < x {
-        return false;
-    }
-    if x < LEAST {
-        return false;
-    }
-    true
+    (-LIMIT..=LIMIT).contains(&x)
 }
 
-// Writes to r and t the numbers x and y asked of the products a of i polynomials, less their queries where the patterns count as u and as v say. False where
+// Writes to r and t the numbers x and y asked of the products a of i polynomials, less their queries where the patterns count as u and as v say. None where
 // one that remains is outside −64 .. 64.
 fn subtract_queries(
     x: &[i16],
@@ -157,30 +131,23 @@ fn subtract_queries(
     v: &[i16],
     r: &mut [i16],
     t: &mut [i16],
-) -> bool
+) -> Option<()>
     requires i_le_most_polynomials { (i ≤ most_polynomials) × Below (3 ^ i) a.now × (length x.now ≡ length a.now) × (length y.now ≡ length a.now) × (length r.old ≡ length a.now) × (length t.old ≡ length a.now) }
     requires within { Within most_points x.now × Within most_points y.now × Within most_moment u.now × Within most_moment v.now }
     requires ones_len { (length ones.now ≡ length u.now) × (length twos.now ≡ length u.now) × (length v.now ≡ length u.now) × (length u.now ≤ most_points) }
     ensures { SubtractedBoth i a.now ones.now twos.now u.now v.now x.now y.now r.new t.new result }
 {
-    let mut k = 0;
-    while k < a.len() {
-        let z = queries_by_digits(digit_sets(a[k], i), ones, twos, u, v);
-        let b = x[k];
-        let c = y[k];
-        let d = minus(b, z.first);
-        let e = minus(c, z.second);
-        if !is_small(d) {
-            return false;
-        }
-        if !is_small(e) {
-            return false;
+    for (k, product) in a.iter().enumerate() {
+        let z = queries_by_digits(digit_sets(*product, i), ones, twos, u, v);
+        let d = x[k] - z.first;
+        let e = y[k] - z.second;
+        if !is_small(d) || !is_small(e) {
+            return None;
         }
         r[k] = d;
         t[k] = e;
-        k += 1;
     }
-    true
+    Some(())
 }
 
 // The same for the adapted list of l. Where nothing is known the numbers remain as they are, and the list is not worked out.
@@ -195,17 +162,17 @@ fn residuals_by(
     v: &[i16],
     r: &mut [i16],
     t: &mut [i16],
-) -> bool
+) -> Option<()>
     requires i_le_most_polynomials { (i ≤ most_polynomials) × Rising l.now × Below (3 ^ i) l.now × (length l.now ≤ most_points) }
     requires x_len { (length x.now ≡ length l.now) × (length y.now ≡ length l.now) × (length r.old ≡ length l.now) × (length t.old ≡ length l.now) }
     requires within { Within most_points x.now × Within most_points y.now × Within most_moment u.now × Within most_moment v.now }
     requires ones_len { (length ones.now ≡ length u.now) × (length twos.now ≡ length u.now) × (length v.now ≡ length u.now) × (length u.now ≤ most_points) }
     ensures { SubtractedBoth i (adapted_of i l.now) ones.now twos.now u.now v.now x.now y.now r.new t.new result }
 {
-    if u.len() == 0 {
-        copy(x, r);
-        copy(y, t);
-        return true;
+    if u.is_empty() {
+        r.copy_from_slice(x);
+        t.copy_from_slice(y);
+        return Some(());
     }
     let n = l.len();
     let mut a = [0u16; MOST_POINTS];
@@ -214,7 +181,7 @@ fn residuals_by(
 }
 
 // Writes to r and t what remains of the numbers x and y, asked of the adapted list of l, where the patterns low, of i polynomials too, have the numbers
-// v and w. False where one that remains is outside −64 .. 64.
+// v and w. None where one that remains is outside −64 .. 64.
 pub fn residuals(
     l: &[u16],
     low: &[u16],
@@ -225,7 +192,7 @@ pub fn residuals(
     w: &[i16],
     r: &mut [i16],
     t: &mut [i16],
-) -> bool
+) -> Option<()>
     requires i_le_most_polynomials { (i ≤ most_polynomials) × Rising l.now × Below (3 ^ i) l.now × (length l.now ≤ most_points) }
     requires below { Below (3 ^ i) low.now × (length low.now ≤ most_points) × (length v.now ≡ length low.now) × (length w.now ≡ length low.now) × Within most_moment v.now × Within most_moment w.now }
     requires x_len { (length x.now ≡ length l.now) × (length y.now ≡ length l.now) × (length r.old ≡ length l.now) × (length t.old ≡ length l.now) }

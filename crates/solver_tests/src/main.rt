@@ -4,7 +4,7 @@
 
 ghost use Rattle.std.specs.Prelude.{◌≡◌, ◌+◌, ◌*◌, ◌<◌, ◌≤◌, length};
 
-use solver::Solved;
+use refusals::Refusal;
 use std::env::Env;
 use std::io;
 use std::rt::Files;
@@ -19,6 +19,8 @@ const KINDS: usize = 15;
 const ALL: usize = 15;
 
 const UNLIKE: usize = 16;
+
+const TALLIES: usize = 17;
 
 // What the output slice holds before a call, at each place as much more as the place says.
 const HELD: usize = 1000;
@@ -83,14 +85,11 @@ fn expected(file: &[u8], at: usize, n: usize, k: usize) -> i64
 }
 
 // Puts that into every place of out: n numbers, and what is held before a call after them.
-fn fill(file: &[u8], at: usize, n: usize, out: &mut [i64])
-    requires { (at < 900000) × (256 ≡ length out.old) }
+fn fill(file: &[u8], at: usize, n: usize, out: &mut [i64; ROOM])
+    requires { at < 900000 }
 {
-    let mut k = 0;
-    while k < ROOM {
-        let x = expected(file, at, n, k);
-        out[k] = x;
-        k += 1;
+    for (k, place) in out.iter_mut().enumerate() {
+        *place = expected(file, at, n, k);
     }
 }
 
@@ -98,22 +97,19 @@ fn fill(file: &[u8], at: usize, n: usize, out: &mut [i64])
 fn is_left(file: &[u8], at: usize, n: usize, out: &[i64; ROOM]) -> bool
     requires { at < 900000 }
 {
-    let mut k = 0;
-    while k < ROOM {
-        let x = out[k];
-        if x != expected(file, at, n, k) {
+    for (k, x) in out.iter().enumerate() {
+        if *x != expected(file, at, n, k) {
             return false;
         }
-        k += 1;
     }
     true
 }
 
 // 0, or the number of the refusal.
-fn code(answer: Solved) -> usize {
+fn code(answer: Result<(), Refusal>) -> usize {
     match answer {
-        Solved::Found => 0,
-        Solved::Refused(number) => number as usize,
+        Ok(()) => 0,
+        Err(refusal) => usize::from(refusal.number()),
     }
 }
 
@@ -149,21 +145,19 @@ fn agrees(
 }
 
 // Counts one more. A count starts again from 0 after 4,294,967,295, which takes more files than there are.
-fn count(tally: &mut [u32; 17], k: usize)
+fn count(tally: &mut [u32; TALLIES], k: usize)
     requires { k < 17 }
 {
-    let n = std::num::wrapping_add_u32(tally[k], 1);
-    tally[k] = n;
+    tally[k] = tally[k].wrapping_add(1);
 }
 
 // Counts a system of a kind, and whether it differs.
-fn note(tally: &mut [u32; 17], kind: usize, is_right: bool) {
+fn note(tally: &mut [u32; TALLIES], kind: usize, is_right: bool) {
     count(tally, ALL);
     count(tally, kind % KINDS);
-    if is_right {
-        return;
+    if !is_right {
+        count(tally, UNLIKE);
     }
-    count(tally, UNLIKE);
 }
 
 // Compares the system at a place. Returns the place after it.
@@ -172,7 +166,7 @@ fn compare_system(
     at: usize,
     s: usize,
     patterns: &[u16],
-    tally: &mut [u32; 17],
+    tally: &mut [u32; TALLIES],
 ) -> usize
     requires { (at < 700000) × (length patterns.now < 256) }
     ensures { (at ≤ result) × (result ≤ at + 514) }
@@ -196,22 +190,20 @@ fn compare_systems(
     q: usize,
     s: usize,
     patterns: &[u16],
-    tally: &mut [u32; 17],
+    tally: &mut [u32; TALLIES],
 ) -> usize
     requires { (at < 500000) × (q < 256) × (length patterns.now < 256) }
     ensures { (at ≤ result) × (result ≤ at + 514 * q) }
 {
     let mut next = at;
-    let mut k = 0;
-    while k < q {
+    for _system in 0..q {
         next = compare_system(file, next, s, patterns, tally);
-        k += 1;
     }
     next
 }
 
 // Compares the systems of the list at a place. Returns the place after them.
-fn compare_list(file: &[u8], at: usize, tally: &mut [u32; 17]) -> usize
+fn compare_list(file: &[u8], at: usize, tally: &mut [u32; TALLIES]) -> usize
     requires { at < 65536 }
     ensures { at < result }
 {
@@ -225,7 +217,7 @@ fn compare_list(file: &[u8], at: usize, tally: &mut [u32; 17]) -> usize
 }
 
 // Compares the systems of every list of a file, and says so where the file does not end with the last of them.
-fn compare_all(rt: &impl Print, file: &[u8], tally: &mut [u32; 17]) -> io::Result<()>
+fn compare_all(rt: &impl Print, file: &[u8], tally: &mut [u32; TALLIES]) -> io::Result<()>
     requires { length file.now ≤ 65536 }
 {
     let mut at = 0;
@@ -242,15 +234,11 @@ fn compare_all(rt: &impl Print, file: &[u8], tally: &mut [u32; 17]) -> io::Resul
 fn compare_file(
     rt: &(impl Env + Files + Print + Eprint),
     k: usize,
-    tally: &mut [u32; 17],
+    tally: &mut [u32; TALLIES],
 ) -> io::Result<()> {
     let mut file = [0u8; test_input::ROOM];
     let n = test_input::read_argument(rt, k, &mut file);
     compare_all(rt, &file[..n], tally)
-}
-
-fn print_number(rt: &impl Print, n: u32) -> io::Result<()> {
-    print!(rt; "{n}")
 }
 
 // Prints how many systems there are of kind k.
@@ -258,22 +246,18 @@ fn print_kind(rt: &impl Print, k: usize, n: u32) -> io::Result<()> {
     println!(rt; "kind {k}: {n}")
 }
 
-fn print_kinds(rt: &impl Print, tally: &[u32; 17]) -> io::Result<()> {
-    let mut k = 0;
-    while k < KINDS {
+fn print_kinds(rt: &impl Print, tally: &[u32; TALLIES]) -> io::Result<()> {
+    for k in 0..KINDS {
         print_kind(rt, k, tally[k])?;
-        k += 1;
     }
     Ok(())
 }
 
 fn main(rt: HostRuntime) -> io::Result<()> {
-    let mut tally = [0u32; 17];
+    let mut tally = [0u32; TALLIES];
     compare_file(&rt, 1, &mut tally)?;
     compare_file(&rt, 2, &mut tally)?;
-    print_number(&rt, tally[ALL])?;
-    print!(rt; " systems, ")?;
-    print_number(&rt, tally[UNLIKE])?;
-    println!(rt; " differ")?;
+    let (all, unlike) = (tally[ALL], tally[UNLIKE]);
+    println!(rt; "{all} systems, {unlike} differ")?;
     print_kinds(&rt, &tally)
 }

@@ -7,7 +7,7 @@ use Rattle.solver_recursion.proofs.Turns.{within-sum}
 use Rattle.run_round_end.proofs.StepLaws.{Proper, proper_from}
 use Rattle.run_round_end.proofs.MomentLaws.{moments_both, moments_none}
 use Rattle.run_round_end.proofs.by_moments.Goals as goal
-use Rattle.run_round_end.proofs.by_moments.Goals.{Else-not-solve_pair, Start}
+use Rattle.run_round_end.proofs.by_moments.Goals.{Start}
 
 proper_here : (s : Start) → Proper s.args.i s.args.patterns.now s.args.counts.now
 proper_here s = proper_from s.args.i s.args.patterns.now s.args.counts.now s.requires.i_lt_most_polynomials.1 s.requires.counts_value.0
@@ -20,25 +20,20 @@ solve_pair-requires c =
       within = (c.requires.within.0, c.requires.within.1);
     }
 
-pub returns-then-not-solve_pair : goal.returns-then-not-solve_pair
-returns-then-not-solve_pair c =
+pub returns-in_err-solve_pair : goal.returns-in_err-solve_pair
+returns-in_err-solve_pair c =
     rw (
+    c.from_residual.ensures,
     moments_none c.args.i c.args.patterns.now c.args.counts.now c.args.x.now c.args.y.now c.requires.i_lt_most_polynomials.1
     c.requires.i_lt_most_polynomials.2 c.requires.i_lt_most_polynomials.3
-    (proper_here (goal.at.returns-then-not-solve_pair c).Start) (rw (c.if-not-solve_pair.true) at c.solve_pair.ensures)
+    (proper_here (goal.at.returns-in_err-solve_pair c).Start) c.in_err-solve_pair.ensures
     )
     refl
 
--- what the call leaves, where both have a solution
-solved : (c : Else-not-solve_pair)
-    → let out = c.solve_pair.new in
-    Solution c.args.i c.args.patterns.now c.args.x.now out.u
-    × Solution c.args.i c.args.patterns.now c.args.y.now out.v
-solved c = rw (c.if-not-solve_pair.false) at c.solve_pair.ensures
-
 pub judge-requires : goal.judge-requires
 judge-requires c =
-    let S = solved (goal.at.judge-requires c).Else-not-solve_pair in record {
+    let S : Solution c.args.i c.args.patterns.now c.args.x.now c.solve_pair.new.u
+    × Solution c.args.i c.args.patterns.now c.args.y.now c.solve_pair.new.v = c.in_ok-solve_pair.ensures in record {
       i_lt_most_polynomials = (c.requires.i_lt_most_polynomials.0, c.requires.i_lt_most_polynomials.1, S.0.one_each, S.1.one_each);
       counts_value = (c.requires.counts_value.0, within-sum 64 _ S.0.small, within-sum 64 _ S.1.small);
       most_points_in_bounds = (c.requires.counts_value.1, c.requires.counts_value.2);
@@ -46,7 +41,8 @@ judge-requires c =
 
 pub returns : goal.returns
 returns c =
-    let S = solved (goal.at.returns c).Else-not-solve_pair in
+    let S : Solution c.args.i c.args.patterns.now c.args.x.now c.solve_pair.new.u
+    × Solution c.args.i c.args.patterns.now c.args.y.now c.solve_pair.new.v = c.in_ok-solve_pair.ensures in
     rw (
     moments_both c.args.i c.args.patterns.now c.args.counts.now c.args.x.now c.args.y.now c.requires.i_lt_most_polynomials.1
     c.requires.i_lt_most_polynomials.2 c.requires.i_lt_most_polynomials.3

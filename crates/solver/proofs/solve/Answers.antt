@@ -10,29 +10,36 @@ use Rattle.refusals.specs.Limits.{most_polynomials, most_points}
 use Rattle.solutions.specs.Solution.{Posed}
 use Rattle.solutions.specs.Posing.{is_list}
 use Rattle.solutions.proofs.Posing.{list_true}
-use Rattle.solver.specs.declared.Solved.{Solved}
+use Rattle.std.specs.Prelude.{Result, Err}
+use Rattle.refusals.specs.declared.Refusal.TheVariants.{WrongCount}
+use Rattle.solver.specs.Solving.{solve_of}
+use Rattle.refusals.specs.declared.Refusal.{Refusal}
 use Rattle.solver.proofs.Answers.{refused_none, refused-many, refused_list, refused-short, well_posed}
 use Rattle.solver.proofs.solve.Goals as goal
 use Rattle.solver.proofs.solve.Goals.{Else-out-n}
+use Rattle.solver.proofs.solve.Goals.{then-s-eq0-via-then-s-eq0, then-s-eq0-via-else-s-eq0+then-s-gt-MOST_POLYNOMIALS}
 
 -- the answer and the slice at exit, from an equation of the pair
-parts : {p q : Solved × List ℤ} → p ≡ q → (q.0 ≡ p.0) × (q.1 ≡ p.1)
+parts : {p q : Result (Unit {0}) Refusal × List ℤ} → p ≡ q → (q.0 ≡ p.0) × (q.1 ≡ p.1)
 parts e = (sym (ap (λ p. p.0) e), sym (ap (λ p. p.1) e))
+
+-- s outside 1 .. 8
+outside : (c : goal.Joined-then-s-eq0) →
+    let a = c.args in
+    solve_of a.s a.patterns.now a.numbers.now a.out.now ≡ (Err WrongCount, a.out.now)
+outside c =
+    let a = c.args in
+    elim c.then-s-eq0.branch [
+        then-s-eq0-via-then-s-eq0 w ↦ refused_none a.s a.patterns.now a.numbers.now a.out.now w.if-s-eq0.true
+      | then-s-eq0-via-else-s-eq0+then-s-gt-MOST_POLYNOMIALS w ↦
+        refused-many a.s a.patterns.now a.numbers.now a.out.now w.if-s-gt-MOST_POLYNOMIALS.true
+    ]
 
 pub returns-then-s-eq0 : goal.returns-then-s-eq0
 returns-then-s-eq0 c =
-    let a = c.args in
     record {
-      value = (parts (refused_none a.s a.patterns.now a.numbers.now a.out.now c.if-s-eq0.true)).0;
-      out_after = (parts (refused_none a.s a.patterns.now a.numbers.now a.out.now c.if-s-eq0.true)).1;
-    }
-
-pub returns-then-s-gt-MOST_POLYNOMIALS : goal.returns-then-s-gt-MOST_POLYNOMIALS
-returns-then-s-gt-MOST_POLYNOMIALS c =
-    let a = c.args in
-    record {
-      value = (parts (refused-many a.s a.patterns.now a.numbers.now a.out.now c.if-s-gt-MOST_POLYNOMIALS.true)).0;
-      out_after = (parts (refused-many a.s a.patterns.now a.numbers.now a.out.now c.if-s-gt-MOST_POLYNOMIALS.true)).1;
+      value = (parts (outside c)).0;
+      out_after = (parts (outside c)).1;
     }
 
 pub returns-then-not-posed : goal.returns-then-not-posed

@@ -1,6 +1,7 @@
 -- `solver_moments::combine_pair` meets its contract.
 use mathlib.Core.Path.{◌≡◌, refl, sym, ap, ap₂, ◌∙◌}
-use mathlib.Core.Bool.{Bool, false, not, ◌&&◌, ◌||◌}
+use mathlib.Core.Bool.{Bool, true, false, cond, not, ◌&&◌, ◌||◌}
+use Rattle.std.specs.Prelude.{Some, None}
 use Prim.Native.Nat.{ℕ, ◌-◌, ◌*◌, ◌≤◌, ◌<◌}
 use native.Mathlib.Omega.{arith}
 use borrow.Author.Rules.{rules}
@@ -18,6 +19,7 @@ use Rattle.solver_moments.proofs.Loops.{doubled_at, doubled_small, halving_small
 use Rattle.solver_moments.proofs.Loops.{combining_first, combining_next, combining_last}
 use Rattle.solver_moments.proofs.combine_pair.Goals as goal
 use Rattle.solver_moments.proofs.combine_pair.Goals.{After-doubled-x, After-doubled-y, After-loop-k, At-loop-k, In-loop-k}
+use Rattle.solver_moments.proofs.combine_pair.Goals.{then-odd-via-then-odd, then-odd-via-else-odd+then-sum-gt-DOUBLE, then-odd-via-else-odd+else-sum-gt-DOUBLE+then-sum2-gt-DOUBLE}
 
 -- ---- what is known in every turn
 -- the doubles of the two systems
@@ -89,38 +91,29 @@ doubled-y-requires c =
       within = (p.8, p.9, p.10);
     }
 
-pub absolute-sum-requires : goal.absolute-sum-requires
-absolute-sum-requires c =
-    rw (one_is (goal.at.absolute-sum-requires c).After-doubled-x) (one_small (goal.at.absolute-sum-requires c).At-loop-k c.loop-k.k)
-
 pub overflow_add-sum : goal.overflow_add-sum
 overflow_add-sum c =
-    let a = c.args in
     let I = c.loop-k.invariant in
+    let at = (goal.at.overflow_add-sum c).At-loop-k in
     omega (
       arith,
-      halving_small (one (goal.at.overflow_add-sum c).At-loop-k) a.u.now c.loop-k.u c.loop-k.sum c.loop-k.k I.one
-          (one_small (goal.at.overflow_add-sum c).At-loop-k),
-      c.absolute-sum.ensures ∙ ap nat_abs (one_is (goal.at.overflow_add-sum c).After-doubled-x),
-      one_small (goal.at.overflow_add-sum c).At-loop-k c.loop-k.k,
+      halving_small (one at) c.args.u.now c.loop-k.u c.loop-k.sum c.loop-k.k I.one (one_small at),
+      c.from-sum.ensures ∙ c.unsigned_abs.ensures.value ∙ ap nat_abs (one_is (goal.at.overflow_add-sum c).After-doubled-x),
+      one_small at c.loop-k.k,
       I.place,
       c.requires.below.5,
     )
 
-pub absolute-sum2-requires : goal.absolute-sum2-requires
-absolute-sum2-requires c =
-    rw (other_is (goal.at.absolute-sum2-requires c).After-doubled-y) (other_small (goal.at.absolute-sum2-requires c).At-loop-k c.loop-k.k)
-
 pub overflow_add-sum2 : goal.overflow_add-sum2
 overflow_add-sum2 c =
-    let a = c.args in
     let I = c.loop-k.invariant in
+    let at = (goal.at.overflow_add-sum2 c).At-loop-k in
     omega (
       arith,
-      halving_small (other (goal.at.overflow_add-sum2 c).At-loop-k) a.v.now c.loop-k.v c.loop-k.sum2 c.loop-k.k I.other
-          (other_small (goal.at.overflow_add-sum2 c).At-loop-k),
-      c.absolute-sum2.ensures ∙ ap nat_abs (other_is (goal.at.overflow_add-sum2 c).After-doubled-y),
-      other_small (goal.at.overflow_add-sum2 c).At-loop-k c.loop-k.k,
+      halving_small (other at) c.args.v.now c.loop-k.v c.loop-k.sum2 c.loop-k.k I.other (other_small at),
+      c.from-sum2.ensures ∙ c.unsigned_abs-in-loop-k.ensures.value
+          ∙ ap nat_abs (other_is (goal.at.overflow_add-sum2 c).After-doubled-y),
+      other_small at c.loop-k.k,
       I.place,
       c.requires.below.5,
     )
@@ -133,17 +126,17 @@ loop-k-preserved c =
     combining_next (one (goal.at.loop-k-preserved c).At-loop-k) (other (goal.at.loop-k-preserved c).At-loop-k) a.u.now a.v.now c.loop-k.u
     c.loop-k.v c.loop-k.sum c.loop-k.sum2 c.loop-k.odd
     _ (length a.l.now) c.loop-k.k _ _ _ _ c.loop-k.invariant (omega (arith, c.loop-k-test.true)) c.requires.below.2 c.requires.below.3
-    (c.still_odd-odd.ensures
-    ∙ ap₂ (λ (o : Bool) (z : ℤ). o || is_odd z) (c.still_odd.ensures ∙ ap (λ (z : ℤ). c.loop-k.odd || is_odd z) x) y)
-    (c.absolute-sum.ensures ∙ ap nat_abs x) (c.absolute-sum2.ensures ∙ ap nat_abs y)
-    (back c.half-a.result (search rules) ∙ c.half-a.ensures ∙ ap (λ z. shr_z z 2) x)
-    (back c.half-b.result (search rules) ∙ c.half-b.ensures ∙ ap (λ z. shr_z z 2) y)
+    (ap (λ (o : Bool). c.loop-k.odd || o) (ap₂ ◌||◌ (c.is_odd.ensures ∙ ap is_odd x) (c.is_odd-in-loop-k.ensures ∙ ap is_odd y)))
+    (c.from-sum.ensures ∙ c.unsigned_abs.ensures.value ∙ ap nat_abs x)
+    (c.from-sum2.ensures ∙ c.unsigned_abs-in-loop-k.ensures.value ∙ ap nat_abs y)
+    (back (shr_z (to_z w16 (of_z w16 c.doubled-x.result)) 2) (search rules) ∙ ap (λ z. shr_z z 2) x)
+    (back (shr_z (to_z w16 (of_z w16 c.doubled-y.result)) 2) (search rules) ∙ ap (λ z. shr_z z 2) y)
 
 -- what the loop leaves gives each answer
 last : (c : After-loop-k) → let a = c.args in
     (b : Bool) → b ≡ not c.loop-k.odd && (leb c.loop-k.sum 128 && leb c.loop-k.sum2 128)
     → CombinedBoth a.w a.l.now a.at.now a.d.now a.e.now a.g.now a.d2.now a.e2.now a.g2.now c.loop-k.u
-    c.loop-k.v b
+    c.loop-k.v (cond b (Some tt) None)
 last c =
     let a = c.args in
     combining_last a.w a.l.now a.at.now a.d.now a.e.now a.g.now a.d2.now a.e2.now a.g2.now a.u.now
@@ -151,14 +144,25 @@ last c =
     (omega (arith, c.loop-k-test.false)) c.requires.below.2 c.requires.below.3
 
 pub returns-then-odd : goal.returns-then-odd
-returns-then-odd c = last (goal.at.returns-then-odd c).After-loop-k false (rw c.if-odd.true refl)
-
-pub returns-then-sum-gt-DOUBLE : goal.returns-then-sum-gt-DOUBLE
-returns-then-sum-gt-DOUBLE c =
-    last (goal.at.returns-then-sum-gt-DOUBLE c).After-loop-k false
-    (rw (c.if-odd.false, lt-leb c.loop-k.sum 128 c.if-sum-gt-DOUBLE.true) refl)
+returns-then-odd c =
+    let l = last (goal.at.returns-then-odd c).After-loop-k false in
+    elim c.then-odd.branch [
+      | then-odd-via-then-odd w ↦ l (rw w.if-odd.true refl)
+      | then-odd-via-else-odd+then-sum-gt-DOUBLE w ↦
+          l (rw (w.if-odd.false, lt-leb c.loop-k.sum 128 w.if-sum-gt-DOUBLE.true) refl)
+      | then-odd-via-else-odd+else-sum-gt-DOUBLE+then-sum2-gt-DOUBLE w ↦
+          l (rw (
+            w.if-odd.false,
+            le-leb c.loop-k.sum 128 (omega (arith, w.if-sum-gt-DOUBLE.false)),
+            lt-leb c.loop-k.sum2 128 w.if-sum2-gt-DOUBLE.true,
+          ) refl)
+    ]
 
 pub returns : goal.returns
 returns c =
-    last (goal.at.returns c).After-loop-k (leb c.loop-k.sum2 128)
-    (rw (c.if-odd.false, le-leb c.loop-k.sum 128 (omega (arith, c.if-sum-gt-DOUBLE.false))) refl)
+    last (goal.at.returns c).After-loop-k true
+    (rw (
+      c.if-odd.false,
+      le-leb c.loop-k.sum 128 (omega (arith, c.if-sum-gt-DOUBLE.false)),
+      le-leb c.loop-k.sum2 128 (omega (arith, c.if-sum2-gt-DOUBLE.false)),
+    ) refl)

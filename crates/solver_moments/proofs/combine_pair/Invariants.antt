@@ -9,6 +9,3 @@ abbrev pub invariant-loop-k : goal.invariant-loop-k
 invariant-loop-k l =
     Combining (doubled_at l.w l.l l.at l.d l.e l.g) (doubled_at l.w l.l l.at l.d2 l.e2 l.g2) l.initial.u l.initial.v l.u l.v l.sum l.sum2
     l.odd (length l.l) l.k
-
-abbrev pub decreases-loop-k : goal.decreases-loop-k
-decreases-loop-k l = length l.l - l.k

@@ -9,6 +9,3 @@ abbrev pub invariant-loop-k : goal.invariant-loop-k
 invariant-loop-k l =
     (l.k ≤ length l.x) × (length l.out ≡ length l.initial.out) × ((j : ℕ) → j < l.k → nat_abs (get_or l.x j (pos 0)) ≤ 64)
     × ((j : ℕ) → j < l.k → get_or l.out j (pos 0) ≡ get_or l.x j (pos 0))
-
-abbrev pub decreases-loop-k : goal.decreases-loop-k
-decreases-loop-k l = length l.x - l.k

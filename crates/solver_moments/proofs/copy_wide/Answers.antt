@@ -14,4 +14,4 @@ pub loop-k-preserved : goal.loop-k-preserved
 loop-k-preserved c =
     let a = c.args in
     copying_next (pos 0) a.x.now a.out.now c.loop-k.out c.loop-k.k _ c.loop-k.invariant (omega arith) c.requires
-    (back_64 c.wide-z.result (search rules) ∙ c.wide-z.ensures ∙ back (get_or a.x.now c.loop-k.k (pos 0)) (search rules))
+    (back_64 c.from.result (search rules) ∙ c.from.ensures ∙ back (get_or a.x.now c.loop-k.k (pos 0)) (search rules))

@@ -6,6 +6,3 @@ use Rattle.solver_moments.proofs.put.Given as goal
 
 abbrev pub invariant-loop-j : goal.invariant-loop-j
 invariant-loop-j l = Putting l.k l.mark l.f l.initial.v l.v l.n l.j
-
-abbrev pub decreases-loop-j : goal.decreases-loop-j
-decreases-loop-j l = length l.mark - l.j

@@ -9,6 +9,3 @@ use Rattle.solver_moments.proofs.second.Given as goal
 
 abbrev pub invariant-loop-j : goal.invariant-loop-j
 invariant-loop-j l = Writing (pos 0) (λ h z. z ≡ second_of (get_or l.mark h 0) (get_or l.d h (pos 0))) (length l.mark) l.initial.e l.e l.j
-
-abbrev pub decreases-loop-j : goal.decreases-loop-j
-decreases-loop-j l = length l.mark - l.j

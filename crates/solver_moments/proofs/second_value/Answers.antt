@@ -1,22 +1,18 @@
 -- `solver_moments::second_value` meets its contract.
-use mathlib.Core.Path.{refl, ◌∙◌}
-use borrow.Author.Tests.{eq-eqb, ne_eqb}
 use borrow.Author.Rules.{rules}
+use lib.IntN.{pos, ◌-ℤ◌}
 use Rattle.solver_moments.specs.Moments.{second_of}
 use Rattle.integers.proofs.I16.{back}
 use Rattle.solver_moments.proofs.second_value.Goals as goal
 
-pub returns-then-m-eq2 : goal.returns-then-m-eq2
+pub returns-in-2 : goal.returns-in-2
 unfolding second_of
-returns-then-m-eq2 c = rw (eq-eqb c.args.m 2 c.if-m-eq2.true) (back c.args.d (search rules))
+returns-in-2 c = rw c.in-2.is (back c.args.d (search rules))
 
-pub returns-then-m-eq4 : goal.returns-then-m-eq4
+pub returns-in-4 : goal.returns-in-4
 unfolding second_of
-returns-then-m-eq4 c =
-    rw (ne_eqb c.args.m 2 c.if-m-eq2.false, eq-eqb c.args.m 4 c.if-m-eq4.true)
-    (back c.minus.result (search rules) ∙ c.minus.ensures ∙ rw (back c.args.d (search rules)) refl)
+returns-in-4 c = rw (c.in-4.is, back c.args.d (search rules)) (back (pos 0 -ℤ c.args.d) (search rules))
 
-pub returns-else-m-eq4 : goal.returns-else-m-eq4
+pub returns-in_default : goal.returns-in_default
 unfolding second_of
-returns-else-m-eq4 c =
-    rw (ne_eqb c.args.m 2 c.if-m-eq2.false, ne_eqb c.args.m 4 c.if-m-eq4.false) refl
+returns-in_default c = search rules

@@ -11,6 +11,3 @@ abbrev pub invariant-loop-j : goal.invariant-loop-j
 invariant-loop-j l =
     Writing (pos 0) (λ h z. z ≡ third_of (get_or l.mark h 0) (get_or l.d h (pos 0)) (get_or l.e h (pos 0))) (length l.mark) l.initial.g l.g
     l.j
-
-abbrev pub decreases-loop-j : goal.decreases-loop-j
-decreases-loop-j l = length l.mark - l.j

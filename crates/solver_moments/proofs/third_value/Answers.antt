@@ -1,8 +1,9 @@
 -- `solver_moments::third_value` meets its contract.
 use Prim.Native.Nat.{◌%◌}
-use mathlib.Core.Path.{refl, ◌∙◌}
+use mathlib.Core.Path.{refl}
 use borrow.Author.Tests.{eq-eqb, ne_eqb}
 use borrow.Author.Rules.{rules}
+use lib.IntN.{pos, ◌-ℤ◌}
 use Rattle.solver_moments.specs.Moments.{third_of}
 use Rattle.integers.proofs.I16.{back}
 use Rattle.solver_moments.proofs.third_value.Goals as goal
@@ -11,26 +12,14 @@ pub returns-then-m-eq0 : goal.returns-then-m-eq0
 unfolding third_of
 returns-then-m-eq0 c = rw (eq-eqb (c.args.m % 2) 0 c.if-m-eq0.true) (back c.args.d (search rules))
 
-pub returns-then-m-eq3 : goal.returns-then-m-eq3
+pub returns-in-3 : goal.returns-in-3
 unfolding third_of
-returns-then-m-eq3 c =
-    rw (ne_eqb (c.args.m % 2) 0 c.if-m-eq0.false, eq-eqb c.args.m 3 c.if-m-eq3.true) (back c.args.e (search rules))
+returns-in-3 c = rw c.in-3.is (back c.args.e (search rules))
 
-pub returns-then-m-eq5 : goal.returns-then-m-eq5
+pub returns-in-5 : goal.returns-in-5
 unfolding third_of
-returns-then-m-eq5 c =
-    rw (
-      ne_eqb (c.args.m % 2) 0 c.if-m-eq0.false,
-      ne_eqb c.args.m 3 c.if-m-eq3.false,
-      eq-eqb c.args.m 5 c.if-m-eq5.true,
-    )
-    (back c.minus.result (search rules) ∙ c.minus.ensures ∙ rw (back c.args.e (search rules)) refl)
+returns-in-5 c = rw (c.in-5.is, back c.args.e (search rules)) (back (pos 0 -ℤ c.args.e) (search rules))
 
-pub returns-else-m-eq5 : goal.returns-else-m-eq5
+pub returns-in_default : goal.returns-in_default
 unfolding third_of
-returns-else-m-eq5 c =
-    rw (
-      ne_eqb (c.args.m % 2) 0 c.if-m-eq0.false,
-      ne_eqb c.args.m 3 c.if-m-eq3.false,
-      ne_eqb c.args.m 5 c.if-m-eq5.false,
-    ) refl
+returns-in_default c = search rules

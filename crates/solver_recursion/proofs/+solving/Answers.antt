@@ -1,7 +1,7 @@
 -- The functions of the solver's recursion meet their contracts: the solver finds both solutions, or there are not two.
 use mathlib.Core.Path.{◌≡◌, sym, ap, ◌∙◌}
 use mathlib.Core.List.{◌++◌}
-use mathlib.Core.Bool.{true}
+use Rattle.std.specs.Prelude.{Some}
 use native.Mathlib.Omega.{arith}
 use borrow.Author.Rules.{rules}
 use lib.IntN.{pos}
@@ -121,17 +121,17 @@ find_moments-overflow_add-m t c =
     let a = c.args in
     omega (arith, two, chosen-length 2 a.low.now a.mark.now, c.requires.i_lt_most_polynomials.3)
 
-pub find_moments-returns-then-not-solve_pair : goal.find_moments-returns-then-not-solve_pair
-find_moments-returns-then-not-solve_pair t c =
+pub find_moments-returns-in_err-solve_pair : goal.find_moments-returns-in_err-solve_pair
+find_moments-returns-in_err-solve_pair t c =
     let a = c.args in
-    none_first a.i a.low.now a.mark.now a.x.now a.y.now (rw (c.if-not-solve_pair.true) at c.solve_pair.ensures)
+    rw c.from_residual.ensures (none_first a.i a.low.now a.mark.now a.x.now a.y.now c.in_err-solve_pair.ensures)
 
 pub find_moments-second-requires : goal.find_moments-second-requires
 find_moments-second-requires t c =
     let firsts : let a = c.args in
     Solution a.i a.low.now (take (length a.low.now) a.x.now) c.solve_pair.new.u
     × Solution a.i a.low.now (take (length a.low.now) a.y.now) c.solve_pair.new.v =
-    rw (c.if-not-solve_pair.false) at c.solve_pair.ensures in
+    c.in_ok-solve_pair.ensures in
     let a = c.args in (
       c.solve_pair.auto.u ∙ c.requires.d_len.0 ∙ sym c.requires.i_lt_most_polynomials.4,
       c.requires.d_len.1 ∙ sym c.requires.i_lt_most_polynomials.4,
@@ -143,7 +143,7 @@ find_moments-second-requires-2 t c =
     let firsts : let a = c.args in
     Solution a.i a.low.now (take (length a.low.now) a.x.now) c.solve_pair.new.u
     × Solution a.i a.low.now (take (length a.low.now) a.y.now) c.solve_pair.new.v =
-    rw (c.if-not-solve_pair.false) at c.solve_pair.ensures in
+    c.in_ok-solve_pair.ensures in
     let a = c.args in (
       c.solve_pair.auto.v ∙ c.requires.d_len.3 ∙ sym c.requires.i_lt_most_polynomials.4,
       c.requires.d_len.4 ∙ sym c.requires.i_lt_most_polynomials.4,
@@ -158,7 +158,7 @@ find_moments-moment-requires t c =
     let firsts : let a = c.args in
     Solution a.i a.low.now (take (length a.low.now) a.x.now) c.solve_pair.new.u
     × Solution a.i a.low.now (take (length a.low.now) a.y.now) c.solve_pair.new.v =
-    rw (c.if-not-solve_pair.false) at c.solve_pair.ensures in
+    c.in_ok-solve_pair.ensures in
     let small_0 : Within 64 c.second.new.e =
     second-within 64 _ _ c.second.new.e c.second.ensures (c.second.auto.e ∙ c.requires.d_len.1 ∙ sym c.requires.i_lt_most_polynomials.4)
     (within-sum 64 _ firsts.0.small) in
@@ -192,24 +192,21 @@ find_moments-moment-requires t c =
       ),
     )
 
-pub find_moments-returns-then-not-moment : goal.find_moments-returns-then-not-moment
-find_moments-returns-then-not-moment t c =
+pub find_moments-returns-in_err-moment : goal.find_moments-returns-in_err-moment
+find_moments-returns-in_err-moment t c =
     let two : let a = c.args in
     c.shared.result ≡ length (chosen 2 a.low.now a.mark.now) =
     c.shared.ensures ∙ rank-all 2 c.args.low.now c.args.mark.now c.requires.i_lt_most_polynomials.4 in
     let firsts : let a = c.args in
     Solution a.i a.low.now (take (length a.low.now) a.x.now) c.solve_pair.new.u
     × Solution a.i a.low.now (take (length a.low.now) a.y.now) c.solve_pair.new.v =
-    rw (c.if-not-solve_pair.false) at c.solve_pair.ensures in
+    c.in_ok-solve_pair.ensures in
     let a = c.args in
     let S = firsts in
-    none_second a.i a.low.now a.mark.now a.x.now a.y.now c.solve_pair.new.u c.solve_pair.new.v
+    rw c.from_residual-in_err-moment.ensures (none_second a.i a.low.now a.mark.now a.x.now a.y.now c.solve_pair.new.u c.solve_pair.new.v
     c.second.new.e c.second-2.new.e S.0 S.1 (c.second.auto.e ∙ c.requires.d_len.1) (c.second-2.auto.e ∙ c.requires.d_len.4) c.second.ensures
     c.second-2.ensures
-    (rw (
-      two,
-      c.if-not-moment.true,
-    ) at c.moment.ensures)
+    (rw two at c.in_err-moment.ensures))
 
 pub find_moments-third-requires : goal.find_moments-third-requires
 find_moments-third-requires t c =
@@ -218,7 +215,7 @@ find_moments-third-requires t c =
     let firsts : let a = c.args in
     Solution a.i a.low.now (take (length a.low.now) a.x.now) c.solve_pair.new.u
     × Solution a.i a.low.now (take (length a.low.now) a.y.now) c.solve_pair.new.v =
-    rw (c.if-not-solve_pair.false) at c.solve_pair.ensures in
+    c.in_ok-solve_pair.ensures in
     let small_0 : Within 64 c.second.new.e =
     second-within 64 _ _ c.second.new.e c.second.ensures (c.second.auto.e ∙ c.requires.d_len.1 ∙ sym c.requires.i_lt_most_polynomials.4)
     (within-sum 64 _ firsts.0.small) in
@@ -232,11 +229,8 @@ find_moments-third-requires t c =
     (residuals a.i a.low.now c.second-2.new.e
     (adapted a.i L) (asked₂ a.low.now a.mark.now a.y.now))
     c.second.new.e c.second-2.new.e c.moment.new.v
-    c.moment.new.w true =
-    rw (
-      two,
-      c.if-not-moment.false,
-    ) at c.moment.ensures in
+    c.moment.new.w (Some tt) =
+    rw two at c.in_ok-moment.ensures in
     let small : Within 128 c.moment.new.v =
     let M = seconds.0 in
     spread_within 64 2 _ M.0 _ _ M.2 (long ∙ sym c.requires.i_lt_most_polynomials.4) small_0
@@ -255,7 +249,7 @@ find_moments-third-requires-2 t c =
     let firsts : let a = c.args in
     Solution a.i a.low.now (take (length a.low.now) a.x.now) c.solve_pair.new.u
     × Solution a.i a.low.now (take (length a.low.now) a.y.now) c.solve_pair.new.v =
-    rw (c.if-not-solve_pair.false) at c.solve_pair.ensures in
+    c.in_ok-solve_pair.ensures in
     let small_0' : Within 64 c.second-2.new.e =
     second-within 64 _ _ c.second-2.new.e c.second-2.ensures (c.second-2.auto.e ∙ c.requires.d_len.4
     ∙ sym c.requires.i_lt_most_polynomials.4)
@@ -270,11 +264,8 @@ find_moments-third-requires-2 t c =
     (residuals a.i a.low.now c.second-2.new.e
     (adapted a.i L) (asked₂ a.low.now a.mark.now a.y.now))
     c.second.new.e c.second-2.new.e c.moment.new.v
-    c.moment.new.w true =
-    rw (
-      two,
-      c.if-not-moment.false,
-    ) at c.moment.ensures in
+    c.moment.new.w (Some tt) =
+    rw two at c.in_ok-moment.ensures in
     let small' : Within 128 c.moment.new.w =
     let M = seconds.1 in
     spread_within 64 2 _ M.0 _ _ M.2 (long' ∙ sym c.requires.i_lt_most_polynomials.4) small_0'
@@ -294,7 +285,7 @@ find_moments-moment-requires-2 t c =
     let firsts : let a = c.args in
     Solution a.i a.low.now (take (length a.low.now) a.x.now) c.solve_pair.new.u
     × Solution a.i a.low.now (take (length a.low.now) a.y.now) c.solve_pair.new.v =
-    rw (c.if-not-solve_pair.false) at c.solve_pair.ensures in
+    c.in_ok-solve_pair.ensures in
     let small_0 : Within 64 c.second.new.e =
     second-within 64 _ _ c.second.new.e c.second.ensures (c.second.auto.e ∙ c.requires.d_len.1 ∙ sym c.requires.i_lt_most_polynomials.4)
     (within-sum 64 _ firsts.0.small) in
@@ -305,11 +296,8 @@ find_moments-moment-requires-2 t c =
     (residuals a.i a.low.now c.second-2.new.e
     (adapted a.i L) (asked₂ a.low.now a.mark.now a.y.now))
     c.second.new.e c.second-2.new.e c.moment.new.v
-    c.moment.new.w true =
-    rw (
-      two,
-      c.if-not-moment.false,
-    ) at c.moment.ensures in
+    c.moment.new.w (Some tt) =
+    rw two at c.in_ok-moment.ensures in
     let long : length c.moment.new.v ≡ length c.args.low.now =
     c.moment.auto.v ∙ c.second.auto.e ∙ c.requires.d_len.1 in
     let small : Within 128 c.moment.new.v =
@@ -367,7 +355,7 @@ find_moments-returns t c =
     let firsts : let a = c.args in
     Solution a.i a.low.now (take (length a.low.now) a.x.now) c.solve_pair.new.u
     × Solution a.i a.low.now (take (length a.low.now) a.y.now) c.solve_pair.new.v =
-    rw (c.if-not-solve_pair.false) at c.solve_pair.ensures in
+    c.in_ok-solve_pair.ensures in
     let seconds : let a = c.args in
     let L = chosen 2 a.low.now a.mark.now in
     PutBoth a.i L a.mark.now 2
@@ -375,11 +363,8 @@ find_moments-returns t c =
     (residuals a.i a.low.now c.second-2.new.e
     (adapted a.i L) (asked₂ a.low.now a.mark.now a.y.now))
     c.second.new.e c.second-2.new.e c.moment.new.v
-    c.moment.new.w true =
-    rw (
-      two,
-      c.if-not-moment.false,
-    ) at c.moment.ensures in
+    c.moment.new.w (Some tt) =
+    rw two at c.in_ok-moment.ensures in
     let long : length c.moment.new.v ≡ length c.args.low.now =
     c.moment.auto.v ∙ c.second.auto.e ∙ c.requires.d_len.1 in
     let long' : length c.moment.new.w ≡ length c.args.low.now =
@@ -434,8 +419,8 @@ moment-residuals-requires-clause-x_len t c =
     let n = c.requires.x_len in
     rw listed (n.0, n.1 ∙ n.0, length-take-le _ _ few ∙ n.0, length-take-le _ _ few ∙ n.0)
 
-pub moment-returns-then-not-residuals : goal.moment-returns-then-not-residuals
-moment-returns-then-not-residuals t c =
+pub moment-returns-in_err-residuals : goal.moment-returns-in_err-residuals
+moment-returns-in_err-residuals t c =
     let few : length c.args.x.now ≤ 64 =
     omega (arith, c.requires.x_len.0, chosen-length c.args.k c.args.low.now c.args.mark.now, c.requires.i_lt_most_polynomials.3) in
     let listed : let a = c.args in
@@ -443,11 +428,8 @@ moment-returns-then-not-residuals t c =
     front_list (chosen c.args.k c.args.low.now c.args.mark.now) _ _ (length c.args.x.now) c.requires.x_len.0
     few c.having.ensures.out_after in
     let a = c.args in
-    both_too_large a.i (chosen a.k a.low.now a.mark.now) _ _
-    (rw (
-      listed,
-      c.if-not-residuals.true,
-    ) at c.residuals.ensures)
+    rw c.from_residual.ensures (both_too_large a.i (chosen a.k a.low.now a.mark.now) _ _
+    (rw listed at c.in_err-residuals.ensures))
 
 pub moment-slice_bounds-r-end-2 : goal.moment-slice_bounds-r-end-2
 moment-slice_bounds-r-end-2 t c =
@@ -512,7 +494,7 @@ moment-put_moment-requires t c =
     let N = rests in
     let f₁ = front_of (length a.x.now) c.residuals.new.r (spare (length a.x.now)) N.0 in
     let f₂ = front_of (length a.x.now) c.residuals.new.t (spare (length a.x.now)) N.1 in
-    let E = rw (e, c.if-not-residuals.false) at c.residuals.ensures in
+    let E = rw e at c.in_ok-residuals.ensures in
     let n = c.requires.x_len in (
       omega (arith, c.decreases),
       rw (e, f₁, f₂) (
@@ -554,21 +536,21 @@ moment-returns t c =
     let N = rests in
     let f₁ = front_of (length a.x.now) c.residuals.new.r (spare (length a.x.now)) N.0 in
     let f₂ = front_of (length a.x.now) c.residuals.new.t (spare (length a.x.now)) N.1 in
-    let E = rw (e, c.if-not-residuals.false) at c.residuals.ensures in
+    let E = rw e at c.in_ok-residuals.ensures in
     rw (e, f₁ ∙ E.0, f₂ ∙ E.1) at c.put_moment.ensures
 
 pub put_moment-put-requires-clause-within : goal.put_moment-put-requires-clause-within
 put_moment-put-requires-clause-within t c =
     let a = c.args in
     let n = c.solve_pair.auto.u ∙ length-take-le _ _ c.requires.i_lt_most_polynomials.3 in
-    let S = rw (c.if-not-solve_pair.false) at c.solve_pair.ensures in
+    let S = c.in_ok-solve_pair.ensures in
     rw (front_of (length a.l.now) c.solve_pair.new.u (spare (length a.l.now)) n) (c.requires.within.2, within-sum 64 _ S.0.small)
 
 pub put_moment-put-requires-2-clause-within : goal.put_moment-put-requires-2-clause-within
 put_moment-put-requires-2-clause-within t c =
     let a = c.args in
     let n = c.solve_pair.auto.v ∙ length-take-le _ _ c.requires.i_lt_most_polynomials.3 in
-    let S = rw (c.if-not-solve_pair.false) at c.solve_pair.ensures in
+    let S = c.in_ok-solve_pair.ensures in
     rw (front_of (length a.l.now) c.solve_pair.new.v (spare (length a.l.now)) n) (c.requires.within.3, within-sum 64 _ S.1.small)
 
 pub solve_low-find_moments-requires : goal.solve_low-find_moments-requires
@@ -596,6 +578,14 @@ solve_low-find_moments-requires t c =
         ((R.sizes, c.requires.x_len.1 ∙ sym c.requires.x_len.0, c.requires.within.0, c.requires.within.1), (k, k, k, k, k, k)),
       ),
     )
+
+pub solve_low-returns-in_err-find_moments : goal.solve_low-returns-in_err-find_moments
+solve_low-returns-in_err-find_moments t c =
+    let a = c.args in
+    let q = c.requires.i_lt_most_polynomials in
+    let P : Posed (suc a.i) a.l.now a.x.now = record { rising = q.2; below = q.3; full = c.requires.x_len.0 } in
+    let P' : Posed (suc a.i) a.l.now a.y.now = record { rising = q.2; below = q.3; full = c.requires.x_len.1 } in
+    rw c.from_residual.ensures (c.in_err-find_moments.ensures a.l.now a.at.now P P' q.4 c.requires.parted.0)
 
 pub solve_low-returns : goal.solve_low-returns
 solve_low-returns t c =
@@ -646,7 +636,7 @@ solve_low-returns t c =
           = c.requires.i_lt_most_polynomials.3;
       full = c.requires.x_len.1;
     } in
-    let M = rw (c.if-not-find_moments.false) at c.find_moments.ensures in
+    let M = c.in_ok-find_moments.ensures in
     let N = longs in
     let F = fronts in
     combined a.i a.l.now a.low.now a.mark.now a.at.now a.x.now a.y.now _ _ _ _ _ _ _ _
@@ -791,7 +781,7 @@ solve_low-combine_pair-requires t c =
           = c.requires.i_lt_most_polynomials.3;
       full = c.requires.x_len.1;
     } in
-    let M = rw (c.if-not-find_moments.false) at c.find_moments.ensures in
+    let M = c.in_ok-find_moments.ensures in
     let N = longs in
     let F = fronts in
     let w₁ = moments_within a.i a.low.now a.mark.now a.x.now _ _ _ Q.marked M.0 in

@@ -8,6 +8,3 @@ abbrev pub invariant-loop-j : goal.invariant-loop-j
 invariant-loop-j l =
     Gathering l.i l.l l.x l.ones l.twos l.u (length l.initial.ones) (length l.initial.twos) (length l.initial.u) l.n l.j
     × Gathering l.i l.l l.y l.ones l.twos l.v (length l.initial.ones) (length l.initial.twos) (length l.initial.v) l.n l.j
-
-abbrev pub decreases-loop-j : goal.decreases-loop-j
-decreases-loop-j l = length l.l - l.j

@@ -7,6 +7,3 @@ use Rattle.solver_residuals.proofs.queries_by_digits.Given as goal
 abbrev pub invariant-loop-j : goal.invariant-loop-j
 invariant-loop-j l =
     (l.j ≤ length l.u) × Summing l.a.ones l.a.twos l.ones l.twos l.u l.first l.j × Summing l.a.ones l.a.twos l.ones l.twos l.v l.second l.j
-
-abbrev pub decreases-loop-j : goal.decreases-loop-j
-decreases-loop-j l = length l.u - l.j

@@ -1,33 +1,28 @@
 -- `solver_residuals::residuals_by` meets its contract.
 use native.Mathlib.Omega.{arith}
 use mathlib.Core.Path.{◌≡◌, sym, subst, ◌∙◌}
+use borrow.Author.Tests.{eqb-true}
 use lib.ListN.{length}
 use Rattle.integers.specs.Sums.{Within}
 use Rattle.refusals.specs.Limits.{most_points}
 use Rattle.signs.specs.Adapted.{adapted}
 use Rattle.signs.proofs.Powers.{power-most}
 use Rattle.signs.proofs.Size.{as_many}
-use Rattle.solver_residuals.proofs.Gathering.{copied-whole, copied_rests, adapted-front, adapted-small}
+use Rattle.solver_residuals.proofs.Gathering.{copied_rests, adapted-front, adapted-small}
 use Rattle.solver_residuals.proofs.residuals_by.Goals as goal
 
-pub returns-then-u-eq0 : goal.returns-then-u-eq0
-returns-then-u-eq0 c =
+pub returns-then-is_empty : goal.returns-then-is_empty
+returns-then-is_empty c =
     let a = c.args in
     let A = adapted a.i a.l.now in
-    let n = as_many a.i a.l.now c.requires.i_le_most_polynomials.1 c.requires.i_le_most_polynomials.2 in
-    let none : length a.ones.now ≡ 0 = omega (
-      arith,
-      c.requires.ones_len.0,
-      c.if-u-eq0.true,
-    ) in
-    let e₁ = c.copy.ensures in
-    let e₂ = c.copy-then-u-eq0.ensures in
-    let z = c.requires.x_len in
+    let none : length a.ones.now ≡ 0 = omega (arith, c.requires.ones_len.0, eqb-true _ _ (sym c.if-is_empty.ensures)) in
+    let e₁ = c.copy_from_slice.ensures.after in
+    let e₂ = c.copy_from_slice-then-is_empty.ensures.after in
     let w = c.requires.within in (
-      copied_rests a.i A a.ones.now a.twos.now a.u.now a.x.now a.r.now _ none (n ∙ sym z.0) e₁,
-      copied_rests a.i A a.ones.now a.twos.now a.v.now a.y.now a.t.now _ none (n ∙ sym z.1) e₂,
-      subst (Within most_points) (sym (copied-whole a.x.now a.r.now _ (z.2 ∙ sym z.0) e₁)) w.0,
-      subst (Within most_points) (sym (copied-whole a.y.now a.t.now _ (z.3 ∙ sym z.1) e₂)) w.1,
+      copied_rests a.i A a.ones.now a.twos.now a.u.now a.x.now _ none e₁,
+      copied_rests a.i A a.ones.now a.twos.now a.v.now a.y.now _ none e₂,
+      subst (Within most_points) (sym e₁) w.0,
+      subst (Within most_points) (sym e₂) w.1,
     )
 
 pub adapted-requires : goal.adapted-requires

@@ -17,6 +17,3 @@ abbrev pub invariant-loop-k : goal.invariant-loop-k
 invariant-loop-k l =
     Writing (pos 0) (Remains l.i l.a l.ones l.twos l.u l.x) (length l.a) l.initial.r l.r l.k
     × Writing (pos 0) (Remains l.i l.a l.ones l.twos l.v l.y) (length l.a) l.initial.t l.t l.k
-
-abbrev pub decreases-loop-k : goal.decreases-loop-k
-decreases-loop-k l = length l.a - l.k

@@ -2,8 +2,6 @@
 use Rattle.std.proofs.Common.{◌+◌, ◌-◌, ◌*◌, ◌≤◌}
 use Rattle.solver_tests.proofs.compare_systems.Given as goal
 
-abbrev pub invariant-loop-k : goal.invariant-loop-k
-invariant-loop-k l = (l.k ≤ l.q) × (l.at ≤ l.next) × (l.next ≤ l.at + 514 * l.k)
+abbrev pub invariant-loop-_system : goal.invariant-loop-_system
+invariant-loop-_system l = (l._system ≤ l.q) × (l.at ≤ l.next) × (l.next ≤ l.at + 514 * l._system)
 
-abbrev pub decreases-loop-k : goal.decreases-loop-k
-decreases-loop-k l = l.q - l.k
