@@ -1,5 +1,4 @@
 -- `solver_moments::combine_pair` meets its contract.
-use Prim.Native.Nat.{◌-◌}
 use lib.ListN.{length}
 use Rattle.solver_moments.proofs.Loops.{doubled_at}
 use Rattle.solver_moments.proofs.Loops.{Combining}

@@ -1,5 +1,4 @@
 -- `solver_moments::copy_small` meets its contract.
-use Prim.Native.Nat.{◌-◌}
 use native.Mathlib.Omega.{arith}
 use mathlib.Core.Path.{◌≡◌, ◌∙◌}
 use lib.IntN.{pos}

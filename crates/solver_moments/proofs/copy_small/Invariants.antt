@@ -1,5 +1,5 @@
 -- `solver_moments::copy_small` meets its contract.
-use Prim.Native.Nat.{ℕ, ◌≤◌, ◌<◌, ◌-◌}
+use Prim.Native.Nat.{ℕ, ◌≤◌, ◌<◌}
 use mathlib.Core.Path.{◌≡◌}
 use lib.IntN.{pos, nat_abs}
 use lib.ListN.{length, get_or}

@@ -1,6 +1,4 @@
 -- `solver_moments::copy_wide` meets its contract.
-use Prim.Native.Nat.{◌-◌}
-use lib.ListN.{length}
 use Rattle.integers.proofs.Stores.{Copying}
 use Rattle.solver_moments.proofs.copy_wide.Given as goal
 

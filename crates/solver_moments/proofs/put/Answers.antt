@@ -1,6 +1,5 @@
 -- `solver_moments::put` meets its contract.
 use native.Mathlib.Omega.{arith}
-use Prim.Native.Nat.{◌-◌}
 use Rattle.signs.proofs.Positions.{below_at}
 use Rattle.integers.proofs.Sums.{within_more}
 use Rattle.solver_moments.proofs.Laws.{rank_lt, rank-few}

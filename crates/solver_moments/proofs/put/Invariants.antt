@@ -1,6 +1,4 @@
 -- `solver_moments::put` meets its contract.
-use Prim.Native.Nat.{◌-◌}
-use lib.ListN.{length}
 use Rattle.solver_moments.proofs.Loops.{Putting}
 use Rattle.solver_moments.proofs.put.Given as goal
 

@@ -1,7 +1,6 @@
 -- `solver_moments::third_value` meets its contract.
 use Prim.Native.Nat.{◌%◌}
-use mathlib.Core.Path.{refl}
-use borrow.Author.Tests.{eq-eqb, ne_eqb}
+use borrow.Author.Tests.{eq-eqb}
 use borrow.Author.Rules.{rules}
 use lib.IntN.{pos, ◌-ℤ◌}
 use Rattle.solver_moments.specs.Moments.{third_of}

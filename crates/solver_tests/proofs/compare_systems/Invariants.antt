@@ -2,6 +2,6 @@
 use Rattle.std.proofs.Common.{◌+◌, ◌-◌, ◌*◌, ◌≤◌}
 use Rattle.solver_tests.proofs.compare_systems.Given as goal
 
-abbrev pub invariant-loop-_system : goal.invariant-loop-_system
-invariant-loop-_system l = (l._system ≤ l.q) × (l.at ≤ l.next) × (l.next ≤ l.at + 514 * l._system)
+abbrev pub invariant-loop-system : goal.invariant-loop-system
+invariant-loop-system l = (l._system ≤ l.q) × (l.at ≤ l.next) × (l.next ≤ l.at + 514 * l._system)
 
