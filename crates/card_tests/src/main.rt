@@ -7,8 +7,8 @@
 
 ghost use Rattle.std.specs.Prelude.{◌+◌, ◌≤◌, ◌<◌, length, IfOk};
 
-use card::{Card, Evaluated, Stretch};
-use query::Queried;
+use card::{Shape, Stretch};
+use refusals::Refusal;
 use sign_counts::SignCounts;
 use signs::Product;
 use std::io;
@@ -27,8 +27,8 @@ fn weight(bytes: &[u8]) -> usize {
 // Where the body stands, or the number that refuses the card or the position.
 fn print_place(out: &mut impl Write, card: &[u8], j: usize) -> io::Result<()> {
     match card::locate(card, j) {
-        Stretch::At { start, len } => write!(out, "A {start} {len}"),
-        Stretch::Refused(number) => write!(out, "N {number}"),
+        Ok(Stretch { start, len }) => write!(out, "A {start} {len}"),
+        Err(refusal) => write!(out, "N {refusal}"),
     }
 }
 
@@ -38,10 +38,10 @@ fn print_body(out: &mut impl Write, card: &[u8], j: usize) -> io::Result<()> {
 }
 
 // A value, or R and the number that refuses.
-fn print_value(out: &mut impl Write, answer: Evaluated) -> io::Result<()> {
+fn print_value(out: &mut impl Write, answer: Result<i64, Refusal>) -> io::Result<()> {
     match answer {
-        Evaluated::Value(v) => write!(out, " {v}"),
-        Evaluated::Refused(number) => write!(out, " R {number}"),
+        Ok(v) => write!(out, " {v}"),
+        Err(refusal) => write!(out, " R {refusal}"),
     }
 }
 
@@ -64,15 +64,20 @@ fn print_position(out: &mut impl Write, card: &[u8], j: usize) -> io::Result<()>
 
 fn print_card(out: &mut impl Write, card: &[u8]) -> io::Result<()> {
     match card::read(card) {
-        Card::Sound { s, n } => {
-            writeln!(out, "S {s} {n}")?;
-            for j in 0..=s {
+        Ok(
+            Shape {
+                polynomials,
+                points,
+            },
+        ) => {
+            writeln!(out, "S {polynomials} {points}")?;
+            for j in 0..=polynomials {
                 print_position(out, card, j)?;
             }
             Ok(())
         }
-        Card::Refused(number) => {
-            writeln!(out, "R {number}")?;
+        Err(refusal) => {
+            writeln!(out, "R {refusal}")?;
             print_position(out, card, 0)
         }
     }
@@ -93,10 +98,10 @@ fn print_counts(out: &mut impl Write, counts: SignCounts) -> io::Result<()> {
 }
 
 // The answer of a query, or R and the number that refuses it.
-fn print_answer(out: &mut impl Write, answer: Queried) -> io::Result<()> {
+fn print_answer(out: &mut impl Write, answer: Result<SignCounts, Refusal>) -> io::Result<()> {
     match answer {
-        Queried::Counts(counts) => print_counts(out, counts),
-        Queried::Refused(number) => write!(out, " R {number}"),
+        Ok(counts) => print_counts(out, counts),
+        Err(refusal) => write!(out, " R {refusal}"),
     }
 }
 
