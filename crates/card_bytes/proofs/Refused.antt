@@ -49,7 +49,7 @@ each_words P n = (each, λ p. (p 0 (omega arith), λ i h. p (suc i) (omega arith
     each p zero h = p.0
     each p (suc i) h = p.1 i (omega arith)
 
-some_words : {A : Type 0} (g : A → ℕ) (b : ℕ) (z : A) (l : List A)
+pub some_words : {A : Type 0} (g : A → ℕ) (b : ℕ) (z : A) (l : List A)
     → (some (λ x. ltb b (g x)) l ≡ false) ↔ ((i : ℕ) → i < length l → g (get_or l i z) ≤ b)
 unfolding some
 some_words g b z [] = (λ e i h. absurd (omega arith), λ p. refl)

@@ -1,9 +1,9 @@
 -- The checks in their order: what each finding, after those before it found nothing, makes of the whole.
 use mathlib.Core.Path.{◌≡◌, refl}
-use mathlib.Core.Bool.{true, false, not}
+use mathlib.Core.Bool.{Bool, true, false, not}
 use mathlib.Core.List.{List}
-use Prim.Native.Nat.{ℕ, zero, suc, ◌<◌, ◌≤◌}
-use borrow.Author.Tests.{lt-ltb, le-ltb, eq-eqb, ne_eqb}
+use Prim.Native.Nat.{ℕ}
+use borrow.Author.Tests.{ltb-false, le-ltb, eq-eqb, ne_eqb}
 use lib.Dec.{ltb, eqb}
 use lib.IntN.{ℤ}
 use lib.ListN.{length}
@@ -13,26 +13,20 @@ use Rattle.card_bytes.specs.Bytes.{wanted}
 use Rattle.card_bytes.specs.Causes.{some, wrong_points, polynomials_cause, write_cause}
 use Rattle.card_bytes.specs.Claim.{Counted}
 
--- ---- two causes
-
-pub then_first : (a b : ℕ) → (a ≡ 0 → ⊥) → (a ▸ b) ≡ a
-then_first zero b n = absurd (n refl)
-then_first (suc a) b n = refl
-
 -- ---- all of them
 
 module _ (ds : List ℕ) (cs : List ℤ) (ps : List ℤ) where
-  pub write_few : length ds < 1 → write_cause ds cs ps ≡ wrong_count
+  pub write_count : (Counted ds ps → ⊥) → write_cause ds cs ps ≡ wrong_count
   unfolding write_cause
-  write_few h = rw (lt-ltb (length ds) 1 h)
-
-  pub write_many : 1 ≤ length ds → most_polynomials < length ds → write_cause ds cs ps ≡ wrong_count
-  unfolding write_cause
-  write_many l h = rw (le-ltb (length ds) 1 l, lt-ltb most_polynomials (length ds) h)
-
-  pub write_points : 1 ≤ length ds → length ds ≤ most_polynomials → most_points < length ps → write_cause ds cs ps ≡ wrong_count
-  unfolding write_cause
-  write_points l m h = rw (le-ltb (length ds) 1 l, le-ltb most_polynomials (length ds) m, lt-ltb most_points (length ps) h)
+  write_count h = go (ltb (length ds) 1) (ltb most_polynomials (length ds)) (ltb most_points (length ps)) refl refl refl
+    where
+      go : (a b c : Bool) → ltb (length ds) 1 ≡ a → ltb most_polynomials (length ds) ≡ b → ltb most_points (length ps) ≡ c
+          → write_cause ds cs ps ≡ wrong_count
+      go true b c e f g = rw e
+      go false true c e f g = rw (e, f)
+      go false false true e f g = rw (e, f, g)
+      go false false false e f g =
+          absurd (h (record { s_least = ltb-false _ _ e; s_most = ltb-false _ _ f; n_most = ltb-false _ _ g }))
 
   module _ (c : Counted ds ps) where
     write_counted : write_cause ds cs ps

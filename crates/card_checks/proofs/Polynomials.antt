@@ -1,16 +1,13 @@
 -- The polynomials from place j on: how many coefficients they want, and what refuses them.
-use mathlib.Core.Path.{◌≡◌, sym, ◌∙◌}
-use mathlib.Core.List.{List}
-use Prim.Native.Nat.{ℕ, ◌+◌, ◌-◌, ◌<◌, ◌≤◌}
-use native.Mathlib.Numerals.{add-one}
-use native.Mathlib.Omega.{arith}
-use lib.IntN.{ℤ}
-use lib.ListN.{length, get_or, take, drop, drop_of_length-le}
-use lib.Seq.{drop-cons, drop-drop}
+use Rattle.std.proofs.Common.{◌≡◌, sym, ◌∙◌, ap, List, ℕ, ◌+◌, ◌<◌, ◌≤◌, ℤ, Ok, Err, length, get_or, take, drop, add-one}
+use lib.ListN.{drop_of_length-le}
+use lib.Seq.{drop-cons}
+use Rattle.refusals.specs.Refusals.{checked}
+use Rattle.refusals.specs.declared.Refusal.{Refusal}
 use Rattle.refusals.specs.Numbers.{◌▸◌}
+use Rattle.refusals.proofs.Refusals.{passed_none, passed_on_first}
 use Rattle.card_bytes.specs.Bytes.{wanted}
 use Rattle.card_bytes.specs.Causes.{polynomial_cause, polynomials_cause}
-use Rattle.card_checks.proofs.Order.{then_first}
 
 -- ---- how many coefficients
 
@@ -24,35 +21,24 @@ wanted-ended ds j h = rw (drop_of_length-le ds h)
 
 -- ---- what refuses them
 
--- the code's end of the coefficients that begin at place `from`, and how many they are
-ends : (from d : ℕ) → from + d + 1 ≡ from + (d + 1)
-ends from d = omega arith
-
-many : (from d : ℕ) → from + d + 1 - from ≡ d + 1
-many from d = omega arith
-
-module _ (ds : List ℕ) (cs : List ℤ) (j from : ℕ) where
-  -- what refuses polynomial j, whose coefficients begin at place `from`
+module _ (ds : List ℕ) (left : List ℤ) (j : ℕ) where
+  -- what refuses polynomial j, whose coefficients come first of those that are left
   abbrev cause_at : ℕ
-  cause_at = polynomial_cause (get_or ds j 0) (take (from + get_or ds j 0 + 1 - from) (drop from cs))
+  cause_at = polynomial_cause (get_or ds j 0) (take (get_or ds j 0 + 1) left)
 
   cause_here : j < length ds
-      → polynomials_cause (drop j ds) (drop from cs)
-      ≡ (cause_at ▸ polynomials_cause (drop (j + 1) ds) (drop (from + get_or ds j 0 + 1) cs))
+      → polynomials_cause (drop j ds) left ≡ (cause_at ▸ polynomials_cause (drop (j + 1) ds) (drop (get_or ds j 0 + 1) left))
   unfolding polynomials_cause
-  cause_here h =
-      let d = get_or ds j 0 in
-      rw (many from d, ends from d, ← drop-drop (d + 1) from cs, add-one j, drop-cons ds j 0 h)
+  cause_here h = rw (add-one j, drop-cons ds j 0 h)
 
-  pub cause-found : (m : ℕ) → j < length ds → m ≡ cause_at → (m ≡ 0 → ⊥)
-      → polynomials_cause (drop j ds) (drop from cs) ≡ polynomials_cause ds cs → m ≡ polynomials_cause ds cs
-  cause-found m h e n k = e ∙ sym (then_first _ _ (λ z. n (e ∙ z))) ∙ sym (cause_here h) ∙ k
+  pub cause-found : {m : ℕ} {e : Refusal} → j < length ds → Err e ≡ checked cause_at → polynomials_cause (drop j ds) left ≡ m
+      → Err e ≡ checked m
+  cause-found h e k = passed_on_first cause_at _ e (Ok tt) ∙ ap checked (sym (cause_here h) ∙ k)
 
-  pub cause_passed : (m : ℕ) → j < length ds → m ≡ cause_at → m ≡ 0
-      → polynomials_cause (drop j ds) (drop from cs) ≡ polynomials_cause ds cs
-      → polynomials_cause (drop (j + 1) ds) (drop (from + get_or ds j 0 + 1) cs) ≡ polynomials_cause ds cs
-  cause_passed m h e z k = rw (sym e ∙ z) at (sym (cause_here h)) ∙ k
+  pub cause_passed : {m : ℕ} → j < length ds → Ok tt ≡ checked cause_at → polynomials_cause (drop j ds) left ≡ m
+      → polynomials_cause (drop (j + 1) ds) (drop (get_or ds j 0 + 1) left) ≡ m
+  cause_passed h e k = rw (passed_none cause_at e) at (sym (cause_here h)) ∙ k
 
-  pub cause-ended : length ds ≤ j → polynomials_cause (drop j ds) (drop from cs) ≡ polynomials_cause ds cs → 0 ≡ polynomials_cause ds cs
+  pub cause-ended : {m : ℕ} → length ds ≤ j → polynomials_cause (drop j ds) left ≡ m → Ok tt ≡ checked m
   unfolding polynomials_cause
-  cause-ended h k = rw (drop_of_length-le ds h) at k
+  cause-ended h k = ap checked (rw (drop_of_length-le ds h) at k)

@@ -1,14 +1,11 @@
 -- THEOREM of the code: a call of `draw` gives what `DrawGives` says; in particular a drawn card is sound, with that s, that n and degree d
 -- throughout. The call is known by its contract alone (`Learnt`), so that a weaker promise breaks the theorem.
 use mathlib.Core.Path.{◌≡◌, refl, sym, ap, ◌∙◌}
-use mathlib.Core.Bool.{Bool, true, false}
 use mathlib.Core.List.{List}
 use Prim.Native.Nat.{ℕ, ◌+◌, ◌*◌, ◌<◌, ◌≤◌}
 use native.Mathlib.Omega.{arith}
-use borrow.Author.Tests.{ltb-false, lt-ltb, le-ltb}
 use contract.Lifetimes.{Lfts}
 use denote.Ref.{MutBor}
-use lib.Dec.{ltb}
 use lib.ListN.{length, get_or, replicate, length-replicate, get_or-replicate}
 use Rattle.refusals.specs.Numbers.{◌▸◌}
 use Rattle.layout.specs.Format.{polynomials, offset, degree}
@@ -19,35 +16,13 @@ use Rattle.card_bytes.proofs.Lengths.{length-card}
 use Rattle.card_bytes.proofs.Written.{written_read, written-counts}
 use Rattle.card_writer.specs.Writing.{buffer_cause, placed}
 use Rattle.card_writer.specs.Claim.{Kept}
-use Rattle.card_writer.specs.declared.Written.{Written}
+use Rattle.std.proofs.Common.{Result}
+use Rattle.refusals.specs.declared.Refusal.{Refusal}
 use Rattle.card_writer.proofs.Calls.{placed-refused, placed-short, placed-whole}
 use Rattle.card_draw.specs.Drawn.{drawn_coefficients, drawn_points, drawn_card, draw_cause, drawing}
 use Rattle.card_draw.specs.Claim.{Counted, card_size, IsDrawn, DrawGives}
-use Rattle.card_draw.proofs.Drawing.{length-coefficients, length-points, wanted-replicate, drawn-accepted}
+use Rattle.card_draw.proofs.Drawing.{by_count, by_degree, by_none, length-coefficients, length-points, wanted-replicate, drawn-accepted}
 use Rattle.card_draw.proofs.draw.Reads as draw
-
--- ---- the causes
-
-module _ (s n d : ℕ) where
-  by_count : (Counted s n → ⊥) → draw_cause s n d ≡ 3
-  unfolding draw_cause
-  by_count h = go (ltb s 1) (ltb 8 s) (ltb 64 n) refl refl refl
-    where
-      go : (a b c : Bool) → ltb s 1 ≡ a → ltb 8 s ≡ b → ltb 64 n ≡ c → draw_cause s n d ≡ 3
-      go true b c e f g = rw e
-      go false true c e f g = rw (e, f)
-      go false false true e f g = rw (e, f, g)
-      go false false false e f g =
-          absurd (h (record { s_least = ltb-false s 1 e; s_most = ltb-false 8 s f; n_most = ltb-false 64 n g }))
-
-  module _ (k : Counted s n) where
-    by_degree : 6 < d → draw_cause s n d ≡ 16
-    unfolding draw_cause
-    by_degree h = rw (le-ltb s 1 k.s_least, le-ltb 8 s k.s_most, le-ltb 64 n k.n_most, lt-ltb 6 d h)
-
-    by_none : d ≤ 6 → draw_cause s n d ≡ 0
-    unfolding draw_cause
-    by_none h = rw (le-ltb s 1 k.s_least, le-ltb 8 s k.s_most, le-ltb 64 n k.n_most, le-ltb 6 d h)
 
 -- ---- the card
 
@@ -105,6 +80,6 @@ drawing-gives seed s n d out =
           (placed-whole c out k e (omega (arith, length-drawn seed s n d e)), drawn_is seed s n d e);
     }
 
-pub draw_gives : (κs : Lfts 1) (seed s n d : ℕ) (out out' : MutBor (List ℕ)) (o : Written)
+pub draw_gives : (κs : Lfts 1) (seed s n d : ℕ) (out out' : MutBor (List ℕ)) (o : Result ℕ Refusal)
     → draw.Learnt κs (seed, (s, (n, (d, (out, tt))))) o (seed, (s, (n, (d, (out', tt))))) → DrawGives seed s n d out.now o out'.now
 draw_gives κs seed s n d out out' o (e, f) = rw (e, f) (drawing-gives seed s n d out.now)

@@ -6,7 +6,7 @@ use mathlib.Core.List.{List, ◌∷◌}
 use Prim.Native.Nat.{ℕ, zero, suc, ◌+◌, ◌*◌, ◌≤◌, ◌<◌}
 use native.Mathlib.Nat.{suc-mul, mul-le-mul}
 use native.Mathlib.Omega.{arith}
-use borrow.Author.Tests.{le-ltb, ltb-false, eq-eqb}
+use borrow.Author.Tests.{lt-ltb, le-ltb, ltb-false, eq-eqb}
 use lib.Dec.{ltb, eqb}
 use lib.IntN.{ℤ, pos, nat_abs}
 use lib.ListN.{length, get_or, take, replicate, length-set, length-append, length-replicate}
@@ -23,8 +23,34 @@ use Rattle.card_bytes.specs.Causes.{some, polynomial_cause, polynomials_cause, w
 use Rattle.card_bytes.specs.Claim.{Rising}
 use Rattle.card_bytes.proofs.Refused.{small_words, rising_words}
 use Rattle.card_writer.specs.Writing.{writing}
-use Rattle.card_writer.specs.declared.Written.TheVariants.{Refused}
+use Rattle.std.proofs.Common.{◌≢◌}
+use Rattle.refusals.specs.Refusals.{refusing}
+use Rattle.refusals.proofs.Refusals.{unless_first}
+use Rattle.card_draw.specs.Claim.{Counted}
 use Rattle.card_draw.specs.Drawn.{top, drawn_polynomial, drawn_coefficients, drawn_points, drawn_card, draw_cause, drawing}
+
+-- ---- the causes
+
+module _ (s n d : ℕ) where
+  pub by_count : (Counted s n → ⊥) → draw_cause s n d ≡ 3
+  unfolding draw_cause
+  by_count h = go (ltb s 1) (ltb 8 s) (ltb 64 n) refl refl refl
+    where
+      go : (a b c : Bool) → ltb s 1 ≡ a → ltb 8 s ≡ b → ltb 64 n ≡ c → draw_cause s n d ≡ 3
+      go true b c e f g = rw e
+      go false true c e f g = rw (e, f)
+      go false false true e f g = rw (e, f, g)
+      go false false false e f g =
+          absurd (h (record { s_least = ltb-false s 1 e; s_most = ltb-false 8 s f; n_most = ltb-false 64 n g }))
+
+  module _ (k : Counted s n) where
+    pub by_degree : 6 < d → draw_cause s n d ≡ 16
+    unfolding draw_cause
+    by_degree h = rw (le-ltb s 1 k.s_least, le-ltb 8 s k.s_most, le-ltb 64 n k.n_most, lt-ltb 6 d h)
+
+    pub by_none : d ≤ 6 → draw_cause s n d ≡ 0
+    unfolding draw_cause
+    by_none h = rw (le-ltb s 1 k.s_least, le-ltb 8 s k.s_most, le-ltb 64 n k.n_most, le-ltb 6 d h)
 
 -- ---- how many coefficients there are
 
@@ -183,10 +209,9 @@ take-replicate (suc n) zero x h = absurd (omega arith)
 take-replicate (suc n) (suc m) x h = ap (λ l. x ∷ l) (take-replicate n m x (omega arith))
 
 module _ (seed s n d : ℕ) (out : List ℕ) where
-  pub drawing-refused : (m : ℕ) → m ≡ draw_cause s n d → (m ≡ 0 → ⊥) → drawing seed s n d out ≡ (Refused m, out)
+  pub drawing-refused : draw_cause s n d ≢ 0 → drawing seed s n d out ≡ (refusing (draw_cause s n d), out)
   unfolding drawing
-  drawing-refused zero e h = absurd (h refl)
-  drawing-refused (suc m) e h = rw (← e)
+  drawing-refused h = unless_first _ _ (draw_cause s n d) _ h
 
   -- a draw that is not refused writes a card
   pub drawing-writing : draw_cause s n d ≡ 0

@@ -8,13 +8,13 @@
 --   DrawGives seed s n d out o out'
 --                        == a call on the seed, s, n, d and the buffer out answers o and leaves out': refused by 3, 16 and 15 in this
 --                           order, each for its cause and leaving the buffer as it was; else the card is written, and it is the one drawn
-use Rattle.std.specs.Prelude.{◌≡◌, List, ℕ, ◌+◌, ◌*◌, ◌<◌, ◌≤◌, length}
+use Rattle.std.specs.Prelude.{◌≡◌, List, ℕ, ◌+◌, ◌*◌, ◌<◌, ◌≤◌, Result, length}
+use Rattle.refusals.specs.declared.Refusal.{Refusal}
 use Rattle.layout.specs.Format.{byte, polynomials, point_count, offset, degree}
 use Rattle.card.specs.Sound.{Sound}
 use Rattle.generator.specs.Generator.{after}
 use Rattle.card_bytes.specs.Lists.{coefficients_of, points_of}
 use Rattle.card_writer.specs.Claim.{Placed, Kept}
-use Rattle.card_writer.specs.declared.Written.{Written}
 use Rattle.card_draw.specs.Drawn.{drawn_coefficients, drawn_points, drawn_card}
 
 pub record Counted (s n : ℕ) : Type 0 where
@@ -34,7 +34,7 @@ pub record IsDrawn (seed s n d : ℕ) (c : List ℕ) : Type 0 where
   pub how_many_points : point_count c ≡ n
   pub points : points_of c ≡ drawn_points n (after (s * (d + 1)) seed)
 
-pub record DrawGives (seed s n d : ℕ) (out : List ℕ) (o : Written) (out' : List ℕ) : Type 0 where
+pub record DrawGives (seed s n d : ℕ) (out : List ℕ) (o : Result ℕ Refusal) (out' : List ℕ) : Type 0 where
   pub is_3 : (Counted s n → ⊥) → Kept 3 out o out'
   pub is_16 : Counted s n → 6 < d → Kept 16 out o out'
   pub is_15 : Counted s n → d ≤ 6 → length out < card_size s n d → Kept 15 out o out'

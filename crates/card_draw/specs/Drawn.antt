@@ -7,14 +7,14 @@
 --   drawn_card seed s n d    == the card of s polynomials of degree d and n points; "Points come next": after the coefficients
 --   draw_cause s n d         == "In a draw s and n are refused by 3, then d by 16": the number, or 0
 --   drawing seed s n d out  == the answer of a call with the buffer out, and what the buffer holds then
-use Rattle.std.specs.Prelude.{cond, ◌||◌, ◌&&◌, List, [], ◌++◌, ℕ, zero, suc, ◌+◌, ◌*◌, ltb, eqb, ℤ, pos, nat_abs, get_or, set, replicate}
+use Rattle.std.specs.Prelude.{cond, ◌||◌, ◌&&◌, List, [], ◌++◌, ℕ, zero, suc, ◌+◌, ◌*◌, ltb, eqb, ℤ, pos, nat_abs, Result, get_or, set, replicate}
 use Rattle.refusals.specs.Numbers.{wrong_count, wrong_degree, ◌when◌, ◌▸◌}
 use Rattle.refusals.specs.Limits.{most_polynomials, most_points, most_degree}
+use Rattle.refusals.specs.declared.Refusal.{Refusal}
 use Rattle.sequences.specs.Sorted.{sorted}
 use Rattle.generator.specs.Generator.{after, draws}
 use Rattle.card_bytes.specs.Bytes.{card_bytes}
 use Rattle.card_writer.specs.Writing.{buffer_cause, placed}
-use Rattle.card_writer.specs.declared.Written.{Written}
 
 abbrev pub top : ℕ → ℤ → ℤ
 top d z = cond (ltb 0 d && eqb (nat_abs z) 0) (pos 1) z
@@ -38,5 +38,5 @@ draw_cause s n d =
     ▸ wrong_count when ltb most_points n
     ▸ wrong_degree when ltb most_degree d
 
-unfoldable pub drawing : ℕ → ℕ → ℕ → ℕ → List ℕ → Written × List ℕ
+unfoldable pub drawing : ℕ → ℕ → ℕ → ℕ → List ℕ → Result ℕ Refusal × List ℕ
 drawing seed s n d out = placed (draw_cause s n d ▸ buffer_cause (drawn_card seed s n d) out) (drawn_card seed s n d) out

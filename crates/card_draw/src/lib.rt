@@ -4,13 +4,13 @@
 ghost use Rattle.std.specs.Prelude.{◌≡◌, ◌+◌, ◌*◌, ◌≤◌, ◌<◌, length};
 ghost use Rattle.std.proofs.lemmas.List.Edits.{sets};
 ghost use Rattle.refusals.specs.Limits.{most_polynomials, most_points, most_degree};
+ghost use Rattle.refusals.specs.Refusals.{checked};
 ghost use Rattle.generator.specs.Generator.{after};
 ghost use Rattle.card_writer.specs.Writing.{writing};
 ghost use Rattle.card_draw.specs.Drawn.{top, drawn_polynomial, drawn_coefficients, drawn_points, draw_cause, drawing};
 
-use card_writer::Written;
 use generator::draw_numbers;
-use refusals::{MOST_DEGREE, MOST_POINTS, MOST_POLYNOMIALS, NONE, WRONG_COUNT, WRONG_DEGREE};
+use refusals::{MOST_DEGREE, MOST_POINTS, MOST_POLYNOMIALS, Refusal};
 
 // How many coefficients the polynomials of a card have at most.
 const MOST_NUMBERS: usize = MOST_POLYNOMIALS * (MOST_DEGREE + 1);
@@ -24,36 +24,24 @@ const POINT_BELOW: u32 = 201;
 
 const POINT_LESS: u32 = 100;
 
-// The number that refuses s, n or d, or 0.
-fn check(s: usize, n: usize, d: usize) -> u16
-    ensures { result ≡ draw_cause s n d }
+// Whether s, n and d are within their limits.
+fn check(s: usize, n: usize, d: usize) -> Result<(), Refusal>
+    ensures { result ≡ checked (draw_cause s n d) }
 {
-    if s < 1 {
-        return WRONG_COUNT;
+    if s == 0 || s > MOST_POLYNOMIALS || n > MOST_POINTS {
+        return Err(Refusal::WrongCount);
     }
-    if MOST_POLYNOMIALS < s {
-        return WRONG_COUNT;
+    if d > MOST_DEGREE {
+        return Err(Refusal::WrongDegree);
     }
-    if MOST_POINTS < n {
-        return WRONG_COUNT;
-    }
-    if MOST_DEGREE < d {
-        return WRONG_DEGREE;
-    }
-    NONE
+    Ok(())
 }
 
 // A top coefficient as it is drawn: 1 for 0, unless it is the constant.
 fn nonzero_top(d: usize, z: i64) -> i64
     ensures { result ≡ top d z }
 {
-    if d == 0 {
-        return z;
-    }
-    if z == 0 {
-        return 1;
-    }
-    z
+    if d > 0 && z == 0 { 1 } else { z }
 }
 
 // Draws the coefficients of a polynomial of degree d into out, from place `at` on. Returns the state after them.
@@ -100,7 +88,7 @@ fn draw_card(
     coefficients: &mut [i64],
     points: &mut [i64],
     out: &mut [u8],
-) -> Written
+) -> Result<usize, Refusal>
     requires { (s ≤ most_polynomials) × (d ≤ most_degree) × (length coefficients.old ≡ s * (d + 1)) }
     ensures value { result ≡ (writing degrees.now (drawn_coefficients s d seed) (drawn_points (length points.old) (after (s * (d + 1)) seed)) out.old).0 }
     ensures out_after { out.new ≡ (writing degrees.now (drawn_coefficients s d seed) (drawn_points (length points.old) (after (s * (d + 1)) seed)) out.old).1 }
@@ -112,14 +100,11 @@ fn draw_card(
 
 // Draws a card of s polynomials of degree d and n points from a seed, and writes it to the front of out. Refused, in this order: s outside 1 .. 8, or n
 // above 64 (3); d above 6 (16); out shorter than the card (15). A refusal leaves out as it was, and past the card out keeps what lay there.
-pub fn draw(seed: u32, s: usize, n: usize, d: usize, out: &mut [u8]) -> Written
+pub fn draw(seed: u32, s: usize, n: usize, d: usize, out: &mut [u8]) -> Result<usize, Refusal>
     ensures value { result ≡ (drawing seed s n d out.old).0 }
     ensures out_after { out.new ≡ (drawing seed s n d out.old).1 }
 {
-    let number = check(s, n, d);
-    if number != NONE {
-        return Written::Refused(number);
-    }
+    check(s, n, d)?;
     let degrees = [d; MOST_POLYNOMIALS];
     let mut coefficients = [0i64; MOST_NUMBERS];
     let mut points = [0i64; MOST_POINTS];

@@ -16,8 +16,8 @@ use Rattle.card_bytes.specs.Causes.{write_cause}
 use Rattle.card_bytes.proofs.Refused.{refuses}
 use Rattle.card_writer.specs.Writing.{buffer_cause, placed, writing}
 use Rattle.card_writer.specs.Claim.{Placed, Kept, WriteGives}
-use Rattle.card_writer.specs.declared.Written.{Written}
-use Rattle.card_writer.specs.declared.Written.TheVariants.{Length}
+use Rattle.std.proofs.Common.{Result, Ok}
+use Rattle.refusals.specs.declared.Refusal.{Refusal}
 use Rattle.card_writer.proofs.write.Reads as write
 
 -- ---- what is placed, by its causes
@@ -38,7 +38,7 @@ module _ (c out : List ℕ) where
       (record { answer = refl; front = take-append_seam c (drop (length c) out); rest = drop-append_seam c (drop (length c) out) })
 
   -- an answer that is a length: nothing refuses
-  pub placed-length : (m n : ℕ) → Length n ≡ (placed m c out).0 → (m ≡ 0) × (n ≡ length c) × ((placed m c out).1 ≡ c ++ drop (length c) out)
+  pub placed-length : (m n : ℕ) → Ok n ≡ (placed m c out).0 → (m ≡ 0) × (n ≡ length c) × ((placed m c out).1 ≡ c ++ drop (length c) out)
   placed-length zero n e = (refl, cc, refl)
   placed-length (suc m) n e = let z : ◌≡◌ {A = ℕ} 0 1 = cc in absurd (omega arith)
 
@@ -57,6 +57,6 @@ writing-gives ds cs ps out =
     }
 
 module _ (κs : Lfts 4) (ds : Bor (List ℕ)) (cs ps : Bor (List ℤ)) (out out' : MutBor (List ℕ)) where
-  pub write_gives : (o : Written) → write.Learnt κs (ds, (cs, (ps, (out, tt)))) o (ds, (cs, (ps, (out', tt))))
+  pub write_gives : (o : Result ℕ Refusal) → write.Learnt κs (ds, (cs, (ps, (out, tt)))) o (ds, (cs, (ps, (out', tt))))
       → WriteGives ds.now cs.now ps.now out.now o out'.now
   write_gives o (e, f) = rw (e, f) (writing-gives ds.now cs.now ps.now out.now)

@@ -3,26 +3,26 @@
 --
 --   Placed c out o out' == the card c is written: the answer o is its length, it stands at the front of the buffer, and what lies past it
 --                          is as it was
---   Kept m out o out'   == the number m refuses: it is the answer o, and the buffer is as it was
+--   Kept m out o out'   == the number m refuses: the answer o is its refusal, and the buffer is as it was
 --   WriteGives ds cs ps out o out'
 --                       == a call on the degrees ds, the coefficients cs, the points ps and the buffer out answers o and leaves out':
 --                          refused by the number of the first cause; then by 15, where the buffer is too short; else the card is written
-use Rattle.std.specs.Prelude.{◌≡◌, List, ℕ, ◌<◌, ◌≤◌, ℤ, length, take, drop}
+use Rattle.std.specs.Prelude.{◌≡◌, List, ℕ, ◌<◌, ◌≤◌, ℤ, Result, Ok, length, take, drop}
+use Rattle.refusals.specs.Refusals.{refusing}
+use Rattle.refusals.specs.declared.Refusal.{Refusal}
 use Rattle.card_bytes.specs.Bytes.{card_bytes}
 use Rattle.card_bytes.specs.Claim.{Refuses, Writable}
-use Rattle.card_writer.specs.declared.Written.{Written}
-use Rattle.card_writer.specs.declared.Written.TheVariants.{Length, Refused}
 
-pub record Placed (c out : List ℕ) (o : Written) (out' : List ℕ) : Type 0 where
-  pub answer : o ≡ Length (length c)
+pub record Placed (c out : List ℕ) (o : Result ℕ Refusal) (out' : List ℕ) : Type 0 where
+  pub answer : o ≡ Ok (length c)
   pub front : take (length c) out' ≡ c
   pub rest : drop (length c) out' ≡ drop (length c) out
 
-pub record Kept (m : ℕ) (out : List ℕ) (o : Written) (out' : List ℕ) : Type 0 where
-  pub answer : o ≡ Refused m
+pub record Kept (m : ℕ) (out : List ℕ) (o : Result ℕ Refusal) (out' : List ℕ) : Type 0 where
+  pub answer : o ≡ refusing m
   pub kept : out' ≡ out
 
-pub record WriteGives (ds : List ℕ) (cs ps : List ℤ) (out : List ℕ) (o : Written) (out' : List ℕ) : Type 0 where
+pub record WriteGives (ds : List ℕ) (cs ps : List ℤ) (out : List ℕ) (o : Result ℕ Refusal) (out' : List ℕ) : Type 0 where
   pub number : ℕ  -- of the first cause, or 0
   pub cause : Refuses ds cs ps number
   pub refused : 0 < number → Kept number out o out'

@@ -1,20 +1,13 @@
--- `card_checks::has_high` meets its contract. The loop's invariant: what is left of the degrees decides.
-use Prim.Native.Nat.{◌-◌}
-use native.Mathlib.Omega.{arith}
-use borrow.Author.Tests.{lt-ltb, le-ltb}
-use Rattle.card_checks.proofs.Searches.{some_searches, search_found, search_passed, search_ended}
+-- `card_checks::has_high` meets its contract.
+use Rattle.std.proofs.Common.{ltb, ◌∙◌, rules, tests}
+use Rattle.std.proofs.lemmas.Iterator.{YieldsList-from_slice}
+use Rattle.std.proofs.lemmas.Iterator.Search.{any_from_yields_List}
+use Rattle.refusals.specs.Limits.{most_degree}
+use Rattle.card_checks.proofs.Searches.{some_any}
 use Rattle.card_checks.proofs.has_high.Goals as goal
-
-pub returns-then-degrees-j-gt-MOST_DEGREE : goal.returns-then-degrees-j-gt-MOST_DEGREE
-returns-then-degrees-j-gt-MOST_DEGREE c =
-    search_found (some_searches _) c.args.degrees.now c.loop-j.j 0 (omega arith) (lt-ltb _ _ c.if-degrees-j-gt-MOST_DEGREE.true)
-    c.loop-j.invariant
-
-pub loop-j-preserved : goal.loop-j-preserved
-loop-j-preserved c =
-    search_passed (some_searches _) c.args.degrees.now c.loop-j.j 0 (omega arith) (le-ltb _ _ c.if-degrees-j-gt-MOST_DEGREE.false)
-    c.loop-j.invariant
 
 pub returns : goal.returns
 returns c =
-    search_ended (some_searches _) c.args.degrees.now c.loop-j.j (omega arith) c.loop-j.invariant
+    any_from_yields_List (ltb most_degree) _ _ c.any.result c.any.ensures.ran (YieldsList-from_slice c.args.degrees.now cc)
+    (λ x b q k. search (rules, tests))
+    ∙ some_any _ _

@@ -1,11 +1,5 @@
--- `card_checks::wanted` meets its contract. The loop's invariant: the sum so far, and what is left of the degrees, make what is wanted.
-use mathlib.Core.Path.{◌≡◌}
-use mathlib.Core.Bool.{false}
-use mathlib.Core.List.{List}
-use Prim.Native.Nat.{ℕ, ◌+◌, ◌*◌, ◌≤◌, ◌<◌}
-use native.Mathlib.Omega.{arith}
-use lib.Dec.{ltb}
-use lib.ListN.{length, get_or, drop}
+-- `card_checks::wanted` meets its contract.
+use Rattle.std.proofs.Common.{◌≡◌, ℕ, ◌+◌, ◌*◌, ◌≤◌, ◌<◌, false, ltb, List, length, get_or, drop, arith}
 use Rattle.refusals.specs.Limits.{most_polynomials, most_degree}
 use Rattle.card_bytes.specs.Bytes.{wanted}
 use Rattle.card_bytes.specs.Causes.{some}
@@ -21,18 +15,18 @@ small ds j sum few low h e = omega (arith, wanted-most ds low, wanted_here ds j 
 pub overflow_add-sum : goal.overflow_add-sum
 overflow_add-sum c = omega (
   arith,
-  small c.args.degrees.now c.loop-j.j c.loop-j.sum c.requires.0 c.requires.1
-      (omega arith) c.loop-j.invariant,
+  small c.args.degrees.now c.loop-d.d-index c.loop-d.sum c.requires.0 c.requires.1
+      (omega arith) c.loop-d.invariant,
 )
 
-pub overflow_add-sum-in-loop-j : goal.overflow_add-sum-in-loop-j
-overflow_add-sum-in-loop-j c =
-    omega (arith, small c.args.degrees.now c.loop-j.j c.loop-j.sum c.requires.0 c.requires.1 (omega arith) c.loop-j.invariant)
+pub overflow_add-sum-in-loop-d : goal.overflow_add-sum-in-loop-d
+overflow_add-sum-in-loop-d c =
+    omega (arith, small c.args.degrees.now c.loop-d.d-index c.loop-d.sum c.requires.0 c.requires.1 (omega arith) c.loop-d.invariant)
 
-pub loop-j-preserved : goal.loop-j-preserved
-loop-j-preserved c =
-    omega (arith, wanted_here c.args.degrees.now c.loop-j.j (omega arith))
+pub loop-d-preserved : goal.loop-d-preserved
+loop-d-preserved c =
+    omega (arith, wanted_here c.args.degrees.now c.loop-d.d-index (omega arith))
 
 pub returns : goal.returns
 returns c =
-    omega (arith, wanted-ended c.args.degrees.now c.loop-j.j (omega arith))
+    omega (arith, wanted-ended c.args.degrees.now c.loop-d.d-index (omega arith))

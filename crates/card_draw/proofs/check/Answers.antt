@@ -1,31 +1,28 @@
--- `card_draw::check` meets its contract.
-use native.Mathlib.Omega.{arith}
-use borrow.Author.Tests.{lt-ltb, le-ltb}
-use Rattle.card_draw.specs.Drawn.{draw_cause}
+-- `card_draw::check` meets its contract: each answer is that of the cause found.
+use Rattle.std.proofs.Common.{sym, ap, arith}
+use Rattle.refusals.specs.Refusals.{checked}
+use Rattle.card_draw.specs.Claim.{Counted}
+use Rattle.card_draw.proofs.Drawing.{by_count, by_degree, by_none}
 use Rattle.card_draw.proofs.check.Goals as goal
+use Rattle.card_draw.proofs.check.Goals.{then-s-eq0-via-then-s-eq0, then-s-eq0-via-else-s-eq0+then-s-gt-MOST_POLYNOMIALS, then-s-eq0-via-else-s-eq0+else-s-gt-MOST_POLYNOMIALS+then-n-gt-MOST_POINTS, Else-n-gt-MOST_POINTS}
 
-pub returns-then-s-lt1 : goal.returns-then-s-lt1
-unfolding draw_cause
-returns-then-s-lt1 c = let a = c.args in rw (lt-ltb a.s 1 (omega arith))
+pub returns-then-s-eq0 : goal.returns-then-s-eq0
+returns-then-s-eq0 c =
+    elim c.then-s-eq0.branch [
+      then-s-eq0-via-then-s-eq0 w ↦ ap checked (sym (by_count _ _ _ (λ k. omega arith)))
+    | then-s-eq0-via-else-s-eq0+then-s-gt-MOST_POLYNOMIALS w ↦ ap checked (sym (by_count _ _ _ (λ k. omega arith)))
+    | then-s-eq0-via-else-s-eq0+else-s-gt-MOST_POLYNOMIALS+then-n-gt-MOST_POINTS w ↦
+          ap checked (sym (by_count _ _ _ (λ k. omega arith)))
+    ]
 
-pub returns-then-s-gt-MOST_POLYNOMIALS : goal.returns-then-s-gt-MOST_POLYNOMIALS
-unfolding draw_cause
-returns-then-s-gt-MOST_POLYNOMIALS c = let a = c.args in rw (le-ltb a.s 1 (omega arith), lt-ltb 8 a.s (omega arith))
-
-pub returns-then-n-gt-MOST_POINTS : goal.returns-then-n-gt-MOST_POINTS
-unfolding draw_cause
-returns-then-n-gt-MOST_POINTS c =
-    let a = c.args in
-    rw (le-ltb a.s 1 (omega arith), le-ltb 8 a.s (omega arith), lt-ltb 64 a.n (omega arith))
+-- the counts are right
+counted : (c : Else-n-gt-MOST_POINTS) → Counted c.args.s c.args.n
+counted c = record { s_least = omega arith; s_most = omega arith; n_most = omega arith }
 
 pub returns-then-d-gt-MOST_DEGREE : goal.returns-then-d-gt-MOST_DEGREE
-unfolding draw_cause
 returns-then-d-gt-MOST_DEGREE c =
-    let a = c.args in
-    rw (le-ltb a.s 1 (omega arith), le-ltb 8 a.s (omega arith), le-ltb 64 a.n (omega arith), lt-ltb 6 a.d (omega arith))
+    ap checked
+    (sym (by_degree _ _ _ (counted (goal.at.returns-then-d-gt-MOST_DEGREE c).Else-n-gt-MOST_POINTS) c.if-d-gt-MOST_DEGREE.true))
 
 pub returns : goal.returns
-unfolding draw_cause
-returns c =
-    let a = c.args in
-    rw (le-ltb a.s 1 (omega arith), le-ltb 8 a.s (omega arith), le-ltb 64 a.n (omega arith), le-ltb 6 a.d (omega arith))
+returns c = ap checked (sym (by_none _ _ _ (counted (goal.at.returns c).Else-n-gt-MOST_POINTS) c.if-d-gt-MOST_DEGREE.false))
