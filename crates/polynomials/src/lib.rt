@@ -10,7 +10,6 @@ ghost use Rattle.signs.specs.Signs.{sign_digit};
 ghost use Rattle.polynomials.specs.Values.{evaluate};
 
 use refusals::MOST_DEGREE;
-use std::cmp::Ordering;
 
 // How many coefficients a polynomial has at most.
 pub const MOST_COEFFICIENTS: usize = MOST_DEGREE + 1;
@@ -31,10 +30,12 @@ pub fn evaluate(p: &[i64; MOST_COEFFICIENTS], x: i64) -> i64
 pub fn sign_digit(v: i64) -> u16
     ensures { result ≡ sign_digit v }
 {
-    match v.cmp(&0) {
-        Ordering::Less => 2,
-        Ordering::Equal => 0,
-        Ordering::Greater => 1,
+    if v < 0 {
+        2
+    } else if v == 0 {
+        0
+    } else {
+        1
     }
 }
 

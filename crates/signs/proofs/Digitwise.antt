@@ -3,7 +3,7 @@ use mathlib.Core.Path.{◌≡◌, refl, sym, ap, ◌∙◌}
 use mathlib.Core.Bool.{Bool, true, false, cond, ◌&&◌}
 use Prim.Native.Nat.{ℕ, zero, suc, ◌+◌, ◌*◌, ◌-◌, ◌/◌, ◌%◌, ◌^◌, ◌<◌, ◌≤◌}
 use native.Mathlib.Omega.{arith}
-use native.Mathlib.Nat.{zero-add, one-mul, pow-suc, div-eq_of_lt, mod-eq_of_lt, pow-le-pow_right, div-add-mod'}
+use native.Mathlib.Nat.{zero-add, one-mul, pow-suc, div-eq_of_lt, mod-eq_of_lt, pow-le-pow_right}
 use native.Mathlib.Decide.{ℕ_discrete}
 use lib.Arith.{digits_div, digits_mod}
 use lib.Bits.{bit_and, bit_or, and_block, or_block, and_lt, or_lt}
@@ -41,21 +41,6 @@ pub digit-taken : (d j n q r x : ℕ) → n / 3 ^ j ≡ q → n % 3 ^ j ≡ r
     → x + bit_of q d * 2 ^ j + digit_set d j r ≡ x + digit_set d (suc j) n
 unfolding digit_set
 digit-taken d j n q r x e f = rw (e, f) (omega arith)
-
--- the same, with the weight, the digit and what is left as the code has them
-pub digit_off : (d j n w q r x : ℕ) → w ≡ 3 ^ j → q ≡ n / w → r ≡ n - q * w
-    → x + bit_of q d * 2 ^ j + digit_set d j r ≡ x + digit_set d (suc j) n
-digit_off d j n w q r x f e g =
-    let a : n / 3 ^ j ≡ q = sym (rw f at e) in
-    let b : q * 3 ^ j + n % 3 ^ j ≡ n = rw a at (div-add-mod' n (3 ^ j)) in
-    digit-taken d j n q r x a (omega (arith, rw f at g))
-
--- the top digit is below 3
-pub digit_small : (j n w q : ℕ) → n < 3 ^ suc j → w ≡ 3 ^ j → q ≡ n / w → q < 3
-digit_small j n w q h f e =
-    let (r, k, l, s, g) = digits j n h in
-    let t : n / 3 ^ j ≡ k = ap (λ (x : ℕ). x / 3 ^ j) g ∙ top j k l in
-    omega (arith, rw f at e, t, s)
 
 -- bit j alone
 pub bit_alone : (j : ℕ) → j < 8 → 1 * 2 ^ j % 65536 ≡ 2 ^ j
