@@ -5,6 +5,7 @@
 ghost use Rattle.std.specs.Prelude.{◌<◌};
 
 use determination::Answered;
+use refusals::Refusal;
 use run_record::{Run, Step};
 use std::env::Env;
 use std::io;
@@ -70,7 +71,7 @@ fn eight(item: &[u8], at: usize) -> [u8; 8] {
 enum Given {
     Number(usize), // the product, the pattern, or how many rows were copied
     Done,
-    Refused(u16),
+    Refused(Refusal),
     Wrong, // rows that are not those of the item
 }
 
@@ -80,7 +81,7 @@ fn stored(item: &[u8]) -> Option<Given> {
     match pair(item, 1) / TOTALS {
         0 => Some(Given::Number(number)),
         1 if number == 0 => Some(Given::Done),
-        2 => Some(Given::Refused(number as u16)),
+        2 => Refusal::try_from(number as u16).ok().map(Given::Refused),
         _ => None,
     }
 }
@@ -119,7 +120,7 @@ impl From<Step> for Given {
         match step {
             Step::Ask(p) => Given::Number(usize::from(p.0)),
             Step::Done => Given::Done,
-            Step::Refused(cause) => Given::Refused(cause.number()),
+            Step::Refused(refusal) => Given::Refused(refusal),
         }
     }
 }
@@ -129,7 +130,7 @@ fn fetched(item: &[u8], run: Run) -> Given {
     match determination::fetch_row(run, usize::from_be_bytes(eight(item, 5))) {
         Ok(row) if usize::from(row.count) != pair(item, 13) => Given::Wrong,
         Ok(row) => Given::Number(usize::from(row.pattern.0)),
-        Err(cause) => Given::Refused(cause.number()),
+        Err(refusal) => Given::Refused(refusal),
     }
 }
 
@@ -151,7 +152,7 @@ fn copied(item: &[u8], run: Run) -> Given {
     }
     match copied {
         Ok(n) => Given::Number(n),
-        Err(cause) => Given::Refused(cause.number()),
+        Err(refusal) => Given::Refused(refusal),
     }
 }
 
@@ -223,8 +224,8 @@ impl Tally {
     fn note_given(&mut self, given: Given) {
         match given {
             Given::Done => count(&mut self.done),
-            Given::Refused(k) => {
-                if let Some(n) = self.refusals.get_mut(usize::from(k)) {
+            Given::Refused(refusal) => {
+                if let Some(n) = self.refusals.get_mut(usize::from(refusal.number())) {
                     count(n);
                 }
             }
