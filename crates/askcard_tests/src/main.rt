@@ -4,43 +4,30 @@
 
 ghost use Rattle.std.specs.Prelude.{◌+◌, ◌≤◌, ◌<◌, length, IfOk};
 
-use printout::{MOST_TEXT, Written};
+use printout::MOST_TEXT;
 use std::io;
 use std::io::Write;
-use test_input::{pair, wide};
-
-fn put(out: &mut impl Write, b: u8) -> io::Result<()> {
-    out.write_all(&[b])
-}
-
-fn print_number(out: &mut impl Write, n: u64) -> io::Result<()> {
-    write!(out, " {n}")
-}
+use test_input::pair;
 
 fn print_whole(out: &mut impl Write, card: &[u8]) -> io::Result<()> {
     let mut text = [0u8; MOST_TEXT];
     match printout::printout(card, &mut text) {
-        Written::Bytes(n) => {
+        Ok(n) => {
             if n <= MOST_TEXT {
                 out.write_all(&text[..n])?;
             }
             Ok(())
         }
-        Written::Refused(number) => print_number(out, number as u64),
+        Err(refusal) => write!(out, " {refusal}"),
     }
 }
 
 fn print_short(out: &mut impl Write, card: &[u8]) -> io::Result<()> {
     let mut text = [7u8; 1];
     match printout::printout(card, &mut text) {
-        Written::Bytes(n) => print_number(out, n as u64)?,
-        Written::Refused(number) => {
-            put(out, b'X')?;
-            print_number(out, number as u64)?;
-            print_number(out, wide(text[0]) as u64)?;
-        }
+        Ok(n) => writeln!(out, " {n}"),
+        Err(refusal) => writeln!(out, "X {refusal} {}", text[0]),
     }
-    put(out, b'\n')
 }
 
 fn print_card(out: &mut impl Write, card: &[u8]) -> io::Result<()> {

@@ -20,8 +20,7 @@ use Rattle.run_record.specs.declared.Run.{Run}
 use Rattle.run_record.specs.declared.Step as code_step
 use Rattle.run_record.specs.declared.Step.TheVariants as steps
 use Rattle.determination.specs.declared.Row.{Row}
-use Rattle.determination.specs.declared.Fetched.{Fetched}
-use Rattle.determination.specs.declared.Fetched.TheVariants as fetches
+use Rattle.refusals.specs.declared.Refusal.TheVariants.{WrongLength, WrongByte, WrongCount, WrongOffset, WrongCoefficient, WrongPoint, Late, BadFirst, BadLater, NoCounts, WrongList, NoSolution, WrongProduct, PastLast, TooShort, WrongDegree, ZeroTop, WrongTerms}
 use Rattle.runs.specs.Run.{State, Step, Fetch, answer_of, fetch_of}
 use Rattle.run_record.specs.Record.{state_of, step_of, started_of}
 use Rattle.determination.specs.Served.{fetched_of}
@@ -91,11 +90,11 @@ module _ (o : Printed) (card : Opened) (run run' : Run) (α : ℕ) (z : ℤ) (st
       heard h (subst (λ (x : code_step.Step). Shows o (on_step card α z (state_of run', step_of x))) (sym e)
       (shown o card run' (stages.Row 0) (question_line α z) m))
 
-  pub refuses : (k : ℕ) → step ≡ steps.Refused k → Heard → Made o card run' stages.Over (refusal_line k) → Goal
+  pub refuses : (d : Refusal) → step ≡ steps.Refused d → Heard → Made o card run' stages.Over (refusal_line (number_of d)) → Goal
   unfolding on_step
-  refuses k e h m =
+  refuses d e h m =
       heard h (subst (λ (x : code_step.Step). Shows o (on_step card α z (state_of run', step_of x))) (sym e)
-      (shown o card run' stages.Over (refusal_line k) m))
+      (shown o card run' stages.Over (refusal_line (number_of d)) m))
 
 module _ (o : Printed) (card : Opened) (run : Run) (α : ℕ) (x y : Result SignCounts Refusal) (same : x ≡ y) where
   pub numbered : (t : SignCounts) → x ≡ Ok t
@@ -112,8 +111,29 @@ module _ (o : Printed) (card : Opened) (run : Run) (α : ℕ) (x y : Result Sign
 
 -- ---- a row
 
-module _ (o : Printed) (card : Opened) (run : Run) (p : ℕ) (x : Fetched) (y : Fetch) (same : fetched_of x ≡ y) where
-  pub row-shown : (r : Row) (g : code-stage.Stage) → x ≡ fetches.Row r → stage_of g ≡ after_row p
+-- no other refusal has the number of this one
+pub another : (d : Refusal) → (d ≡ PastLast → ⊥) → eqb (number_of d) past_last ≡ false
+another WrongLength h = refl
+another WrongByte h = refl
+another WrongCount h = refl
+another WrongOffset h = refl
+another WrongCoefficient h = refl
+another WrongPoint h = refl
+another Late h = refl
+another BadFirst h = refl
+another BadLater h = refl
+another NoCounts h = refl
+another WrongList h = refl
+another NoSolution h = refl
+another WrongProduct h = refl
+another PastLast h = absurd (h refl)
+another TooShort h = refl
+another WrongDegree h = refl
+another ZeroTop h = refl
+another WrongTerms h = refl
+
+module _ (o : Printed) (card : Opened) (run : Run) (p : ℕ) (x : Result Row Refusal) (y : Fetch) (same : fetched_of x ≡ y) where
+  pub row-shown : (r : Row) (g : code-stage.Stage) → x ≡ Ok r → stage_of g ≡ after_row p
       → Made o card run g (row_line r.pattern.0 r.count)
       → Shows o (on_fetch card (state_of run) p y)
   unfolding on_fetch
@@ -122,19 +142,19 @@ module _ (o : Printed) (card : Opened) (run : Run) (p : ℕ) (x : Fetched) (y : 
       (subst (λ (u : Stage). Shows o (gives card (state_of run) u (row_line r.pattern.0 r.count))) a
       (shown o card run g (row_line r.pattern.0 r.count) m))
 
-  pub last_shown : (k : ℕ) → x ≡ fetches.Refused k → k ≡ past_last → Made o card run stages.Over (end_line (state_of run).total)
+  pub last_shown : x ≡ Err PastLast → Made o card run stages.Over (end_line (state_of run).total)
       → Shows o (on_fetch card (state_of run) p y)
   unfolding on_fetch
-  last_shown k e h m =
+  last_shown e m =
       subst (λ (v : Fetch). Shows o (on_fetch card (state_of run) p v)) (ap fetched_of (sym e) ∙ same)
-      (rw (eq-eqb k past_last h) (shown o card run stages.Over (end_line (state_of run).total) m))
+      (shown o card run stages.Over (end_line (state_of run).total) m)
 
-  pub row-refused : (k : ℕ) → x ≡ fetches.Refused k → eqb k past_last ≡ false → Made o card run stages.Over (refusal_line k)
+  pub row-refused : (d : Refusal) → x ≡ Err d → eqb (number_of d) past_last ≡ false → Made o card run stages.Over (refusal_line (number_of d))
       → Shows o (on_fetch card (state_of run) p y)
   unfolding on_fetch
-  row-refused k e h m =
+  row-refused d e h m =
       subst (λ (v : Fetch). Shows o (on_fetch card (state_of run) p v)) (ap fetched_of (sym e) ∙ same)
-      (rw h (shown o card run stages.Over (refusal_line k) m))
+      (rw h (shown o card run stages.Over (refusal_line (number_of d)) m))
 
 -- ---- the next line
 

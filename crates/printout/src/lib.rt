@@ -18,7 +18,6 @@ ghost use Rattle.printout.specs.Steps.{asking, Settled, Plays};
 ghost use Rattle.printout.specs.Written.{most_text, written_of};
 ghost use Rattle.printout.specs.Progress.{progress_of, stage_of, begun_of, on_step, on_answer, on_fetch, after_row, next_of, Shows};
 
-use determination::Fetched;
 use lines::{LONGEST_LINE, Line};
 use query::Opened;
 use refusals::{MOST_QUESTIONS, MOST_ROWS, Refusal};
@@ -88,7 +87,10 @@ fn take_answer(card: Opened, run: Run, a: Product, z: i64) -> Printed
     match next.step {
         Step::Ask(b) => with_line(card, after, Stage::Ask(b), lines::question_line(a, z)),
         Step::Done => with_line(card, after, Stage::Row(0), lines::question_line(a, z)),
-        Step::Refused(k) => with_line(card, after, Stage::Over, lines::refusal_line(k)),
+        Step::Refused(refusal) => {
+            let line = lines::refusal_line(refusal.number());
+            with_line(card, after, Stage::Over, line)
+        }
     }
 }
 
@@ -121,23 +123,22 @@ fn next_row(card: Opened, run: Run, p: usize) -> Printed
     ensures { Shows result (on_fetch card (state_of run) p (fetch_of (state_of run) p)) }
 {
     match determination::fetch_row(run, p) {
-        Fetched::Row(row) => with_line(
+        Ok(row) => with_line(
             card,
             run,
             after_row(p),
             lines::row_line(row.pattern, row.count),
         ),
-        Fetched::Refused(k) => {
-            if k == Refusal::PastLast.number() {
-                return with_line(
-                    card,
-                    run,
-                    Stage::Over,
-                    lines::end_line(determination::asked(run)),
-                );
+        Err(refusal) => match refusal {
+            Refusal::PastLast => {
+                let last = lines::end_line(determination::asked(run));
+                with_line(card, run, Stage::Over, last)
             }
-            with_line(card, run, Stage::Over, lines::refusal_line(k))
-        }
+            _ => {
+                let refused = lines::refusal_line(refusal.number());
+                with_line(card, run, Stage::Over, refused)
+            }
+        },
     }
 }
 
@@ -203,9 +204,9 @@ fn put_step(run: &Run, step: Step, a: u16, z: i64, out: &mut [u8], at: usize) ->
                 over: true,
             }
         }
-        Step::Refused(k) => Played {
+        Step::Refused(refusal) => Played {
             product: 0,
-            at: lines::put_refusal(out, at, k),
+            at: lines::put_refusal(out, at, refusal.number()),
             over: true,
         },
     }

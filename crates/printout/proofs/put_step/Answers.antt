@@ -22,5 +22,5 @@ returns-in-Done c o s =
 pub returns-in-Refused : goal.returns-in-Refused
 returns-in-Refused c o s =
     let a = c.args in
-    step-refuses o a.a a.z a.run.now a.step a.out.now a.at c.in-Refused.k _ _ _ c.in-Refused.is
-    c.put_refusal.ensures
+    step-refuses o a.a a.z a.run.now a.step a.out.now a.at c.in-Refused.refusal _ _ _ c.in-Refused.is
+    (rw c.number.ensures at c.put_refusal.ensures)

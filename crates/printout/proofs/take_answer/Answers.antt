@@ -22,5 +22,5 @@ returns-in-Done c =
 pub returns-in-Refused : goal.returns-in-Refused
 returns-in-Refused c =
     let h = rw (to_z-of_z w64 c.args.z c.ranges.z) at c.answer-next.ensures.by_rules in
-    refuses _ _ c.args.run _ c.args.a.0 c.args.z _ c.in-Refused.k c.in-Refused.is h
-    (made _ _ _ _ _ _ c.with_line-in-Refused.ensures c.refusal_line.ensures)
+    refuses _ _ c.args.run _ c.args.a.0 c.args.z _ c.in-Refused.refusal c.in-Refused.is h
+    (made _ _ _ _ _ _ c.with_line-in-Refused.ensures (rw c.number.ensures at c.refusal_line-line.ensures))
