@@ -5,7 +5,7 @@
 
 ghost use Rattle.std.specs.Prelude.{◌≡◌, true, ◌+◌, ◌*◌, ◌^◌, ◌≤◌, ◌<◌, length, IfSome};
 ghost use Rattle.refusals.specs.Limits.{most_polynomials, most_points};
-ghost use Rattle.signs.specs.Lists.{Below, Rising};
+ghost use Rattle.signs.specs.Lists.{is_below, is_rising};
 ghost use Rattle.adapted_tests.specs.Counts.{Counted, Further};
 
 use refusals::{MOST_POINTS, MOST_POLYNOMIALS};
@@ -13,21 +13,69 @@ use signs::{Pattern, Product};
 use std::cmp::Ordering;
 use std::io;
 
-// Whether a list is rising and below a bound.
-fn is_rising(list: &[u16], bound: u16) -> bool
-    ensures { result ≡ true → Rising list.now × Below bound list.now }
-{
-    signs::rising(list) && signs::below(list, bound)
+// A rising list of patterns of s polynomials.
+#[derive(Clone, Copy)]
+struct Patterns<'a> {
+    s: usize,
+    list: &'a [u16],
+    ghost counted: { s ≤ most_polynomials },
+    ghost short: { length list.now ≤ most_points },
+    ghost rising: { is_rising list.now ≡ true },
+    ghost below: { is_below (3 ^ s) list.now ≡ true },
 }
 
-// Whether the adapted list of these patterns of s polynomials is the one stored from a place on.
-fn list_agrees(file: &[u8], at: usize, s: usize, patterns: &[u16]) -> bool
-    requires s_le_most_polynomials { (s ≤ most_polynomials) × Rising patterns.now × Below (3 ^ s) patterns.now × (length patterns.now ≤ most_points) }
-    requires patterns_in_bounds { at + 2 * length patterns.now ≤ length file.now }
-{
-    let mut made = [0; MOST_POINTS];
-    let n = adapted::adapted(patterns, s, 0, &mut made, 0);
-    test_input::are_pairs(file, at, n, 0, &made[..n])
+impl<'a> Patterns<'a> {
+    // None where the list does not rise, or holds a number that is no pattern.
+    fn new(s: usize, list: &'a [u16]) -> Option<Patterns<'a>>
+        requires { (s ≤ most_polynomials) × (length list.now ≤ most_points) }
+        ensures { IfSome result (λ patterns. patterns.list.now ≡ list.now) }
+    {
+        if signs::rising(list) && signs::below(list, signs::bound(s)) {
+            Some(Patterns { s, list })
+        } else {
+            None
+        }
+    }
+
+    // Whether the adapted list of these patterns is the one stored from a place on.
+    fn list_agrees(self, file: &[u8], at: usize) -> bool {
+        let mut made = [0; MOST_POINTS];
+        let n = adapted::adapted(self.list, self.s, 0, &mut made, 0);
+        test_input::are_pairs(file, at, n, 0, &made[..n])
+    }
+
+    // MOST_POINTS, and one more for each pattern that the product is positive on, and one less for each that it is negative on.
+    fn balance(self, a: Product) -> usize
+        requires { a.0 < 3 ^ self.s }
+    {
+        let mut sum = MOST_POINTS;
+        for number in self.list {
+            let p = Pattern(*number);
+            sum = moved(sum, signs::sign(self.s, a, p));
+        }
+        sum
+    }
+
+    // Whether the sum of the signs of a product on these patterns is the number stored, which has MOST_POINTS added.
+    fn query_agrees(self, a: u16, stored: u8) -> bool {
+        a < signs::bound(self.s) && self.balance(Product(a)) == usize::from(stored)
+    }
+
+    // How many of the q queries stored from a place on differ.
+    fn queries_differ(self, file: &[u8], at: usize, q: usize) -> usize
+        requires { at + 3 * q ≤ length file.now }
+        ensures { result ≤ q }
+    {
+        let mut differ = 0;
+        for k in 0..q {
+            let place = at + 3 * k;
+            let a = u16::from_be_bytes([file[place], file[place + 1]]);
+            if !self.query_agrees(a, file[place + 2]) {
+                differ += 1;
+            }
+        }
+        differ
+    }
 }
 
 // One more where the sign is +, one less where it is −.
@@ -42,41 +90,6 @@ fn moved(sum: usize, sign: i64) -> usize
     }
 }
 
-// MOST_POINTS, and one more for each pattern that the product is positive on, and one less for each that it is negative on.
-fn balance(s: usize, patterns: &[u16], a: Product) -> usize
-    requires { (s ≤ most_polynomials) × (a.0 < 3 ^ s) × Below (3 ^ s) patterns.now × (length patterns.now ≤ most_points) }
-{
-    let mut sum = MOST_POINTS;
-    for number in patterns {
-        let p = Pattern(*number);
-        sum = moved(sum, signs::sign(s, a, p));
-    }
-    sum
-}
-
-// Whether the sum of the signs of a product on these patterns is the number stored, which has MOST_POINTS added.
-fn query_agrees(s: usize, patterns: &[u16], a: u16, stored: u8) -> bool
-    requires { (s ≤ most_polynomials) × Below (3 ^ s) patterns.now × (length patterns.now ≤ most_points) }
-{
-    a < signs::bound(s) && balance(s, patterns, Product(a)) == usize::from(stored)
-}
-
-// How many of the q queries stored from a place on differ.
-fn queries_differ(file: &[u8], at: usize, q: usize, s: usize, patterns: &[u16]) -> usize
-    requires { (s ≤ most_polynomials) × Below (3 ^ s) patterns.now × (length patterns.now ≤ most_points) × (at + 3 * q ≤ length file.now) }
-    ensures { result ≤ q }
-{
-    let mut differ = 0;
-    for k in 0..q {
-        let place = at + 3 * k;
-        let a = u16::from_be_bytes([file[place], file[place + 1]]);
-        if !query_agrees(s, patterns, a, file[place + 2]) {
-            differ += 1;
-        }
-    }
-    differ
-}
-
 // How many bytes of the file are passed, and what was compared and found to differ in them.
 #[derive(Clone, Copy, Debug, Default, PartialEq, Eq)]
 struct Progress {
@@ -87,33 +100,31 @@ struct Progress {
     wrong: usize,
 }
 
-// Compares the record at the place reached, of these patterns of s polynomials and q queries. None where the patterns are no rising list.
-fn compare(file: &[u8], s: usize, q: usize, patterns: &[u16], p: Progress) -> Option<Progress>
-    requires { (s ≤ most_polynomials) × (length patterns.now ≤ most_points) × (p.at + 3 + 4 * length patterns.now + 3 * q ≤ length file.now) × Counted p }
-    ensures { IfSome result (λ after. Further p after (length file.now)) }
+// Compares the record at the place reached, of these patterns and q queries.
+fn compare(file: &[u8], q: usize, patterns: Patterns, p: Progress) -> Progress
+    requires { (p.at + 3 + 4 * length patterns.list.now + 3 * q ≤ length file.now) × Counted p }
+    ensures { Further p result (length file.now) }
 {
-    if !is_rising(patterns, signs::bound(s)) {
-        return None;
-    }
-    let products = p.at + 3 + 2 * patterns.len();
-    let queries = products + 2 * patterns.len();
-    Some(Progress {
+    let products = p.at + 3 + 2 * patterns.list.len();
+    let queries = products + 2 * patterns.list.len();
+    Progress {
         at: queries + 3 * q,
         lists: p.lists + 1,
-        unlike: p.unlike + usize::from(!list_agrees(file, products, s, patterns)),
+        unlike: p.unlike + usize::from(!patterns.list_agrees(file, products)),
         queries: p.queries + q,
-        wrong: p.wrong + queries_differ(file, queries, q, s, patterns),
-    })
+        wrong: p.wrong + patterns.queries_differ(file, queries, q),
+    }
 }
 
-// The same for a record of r patterns.
+// The same for a record of r numbers. None where they are no rising list of patterns of s polynomials.
 fn compare_record(file: &[u8], s: usize, q: usize, r: usize, p: Progress) -> Option<Progress>
     requires { (s ≤ most_polynomials) × (r ≤ most_points) × (p.at + 3 + 4 * r + 3 * q ≤ length file.now) × Counted p }
     ensures { IfSome result (λ after. Further p after (length file.now)) }
 {
     let mut list = [0; MOST_POINTS];
     test_input::read_pairs(file, p.at + 3, r, &mut list);
-    compare(file, s, q, &list[..r], p)
+    let patterns = Patterns::new(s, &list[..r])?;
+    Some(compare(file, q, patterns, p))
 }
 
 // Compares the next record. None where it is malformed.

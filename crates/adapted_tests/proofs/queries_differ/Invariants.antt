@@ -1,6 +1,0 @@
--- `adapted_tests::queries_differ` meets its contract: no more differ than are passed.
-use Rattle.std.proofs.Common.{◌≤◌}
-use Rattle.adapted_tests.proofs.queries_differ.Given as goal
-
-abbrev pub invariant-loop-k : goal.invariant-loop-k
-invariant-loop-k l = l.differ ≤ l.k
