@@ -6,12 +6,11 @@
 // has eight bytes, high byte first, in two's complement.
 #![tactic(auto)]
 
-ghost use Rattle.std.specs.Prelude.{◌≤◌, ◌<◌, length, IfOk};
+ghost use Rattle.std.specs.Prelude.{◌≤◌, length, IfOk};
 
-use card_writer::Written;
+use refusals::Refusal;
 use std::io;
 use std::io::Write;
-use test_input::pair;
 
 // How many degrees, coefficients or points a call has at most, and the room for a buffer.
 const MOST_NUMBERS: usize = 128;
@@ -22,33 +21,17 @@ const MOST_ROOM: usize = 1024;
 
 // The number at a place, by its bits; 0 where the file is cut short.
 fn word(file: &[u8], at: usize) -> u64 {
-    if file.len() < 8 {
-        return 0;
+    match file.get(at..) {
+        Some([a, b, c, d, e, f, g, h, ..]) => u64::from_be_bytes([*a, *b, *c, *d, *e, *f, *g, *h]),
+        _ => 0,
     }
-    if file.len() - 8 < at {
-        return 0;
-    }
-    let high = pair(file, at) * 65536 + pair(file, at + 2);
-    let low = pair(file, at + 4) * 65536 + pair(file, at + 6);
-    high as u64 * 4294967296 + low as u64
-}
-
-// The number that these bits are in two's complement.
-fn signed(v: u64) -> i64 {
-    if v < 9223372036854775808 {
-        return v as i64;
-    }
-    -1 - ((18446744073709551615 - v) as i64)
 }
 
 // A number, or the limit where it is above that.
 fn least(v: u64, limit: usize) -> usize
     ensures { result ≤ limit }
 {
-    if (limit as u64) < v {
-        return limit;
-    }
-    v as usize
+    v.min(limit as u64) as usize
 }
 
 // The place n numbers after another, or the end of the file.
@@ -56,76 +39,40 @@ fn after(file: &[u8], at: usize, n: usize) -> usize
     requires { n ≤ 1024 }
     ensures { result ≤ length file.now }
 {
-    if file.len() < at {
-        return file.len();
-    }
-    if file.len() - at < 8 * n {
-        return file.len();
-    }
-    at + 8 * n
+    at.saturating_add(8 * n).min(file.len())
 }
 
-// Puts the numbers from a place on into out, without a sign and with one.
-fn read_degrees(file: &[u8], at: usize, out: &mut [usize]) {
+// Puts the numbers from a place on into out, each as `number` makes it of its bits.
+fn read_numbers<T: Copy, F: Fn(u64) -> T>(file: &[u8], at: usize, out: &mut [T], number: F)
+    requires { F.IsAlwaysCallable number }
+{
     let mut place = at;
-    let mut k = 0;
-    while k < out.len() {
-        out[k] = word(file, place) as usize;
+    for x in out {
+        *x = number(word(file, place));
         place = after(file, place, 1);
-        k += 1;
-    }
-}
-
-fn read_numbers(file: &[u8], at: usize, out: &mut [i64]) {
-    let mut place = at;
-    let mut k = 0;
-    while k < out.len() {
-        out[k] = signed(word(file, place));
-        place = after(file, place, 1);
-        k += 1;
     }
 }
 
 // ---- what is written
 
-fn put(out: &mut impl Write, b: u8) -> io::Result<()> {
-    out.write_all(&[b])
-}
-
-// A digit to the base 16.
-fn hexadecimal(d: u8) -> u8
-    requires { d < 16 }
-{
-    if d < 10 {
-        return b'0' + d;
-    }
-    b'a' + (d - 10)
-}
-
 fn print_bytes(out: &mut impl Write, bytes: &[u8]) -> io::Result<()> {
-    let mut i = 0;
-    while i < bytes.len() {
-        let b = bytes[i];
-        out.write_all(&[hexadecimal(b / 16), hexadecimal(b % 16)])?;
-        i += 1;
+    for b in bytes {
+        write!(out, "{b:02x}")?;
     }
     Ok(())
 }
 
-fn print_answer(out: &mut impl Write, answer: Written) -> io::Result<()> {
+fn print_answer(out: &mut impl Write, answer: Result<usize, Refusal>) -> io::Result<()> {
     match answer {
-        Written::Length(n) => write!(out, "{n}")?,
-        Written::Refused(k) => write!(out, "R{k}")?,
+        Ok(length) => write!(out, "{length} "),
+        Err(refusal) => write!(out, "R{refusal} "),
     }
-    put(out, b' ')
 }
 
 // A buffer's first contents, so that what a call leaves of them shows.
 fn fill(card: &mut [u8]) {
-    let mut k = 0;
-    while k < card.len() {
-        card[k] = (k % 251) as u8;
-        k += 1;
+    for (k, b) in card.iter_mut().enumerate() {
+        *b = (k % 251) as u8;
     }
 }
 
@@ -155,9 +102,9 @@ fn write_at(
     let mut degrees = [0usize; MOST_NUMBERS];
     let mut coefficients = [0i64; MOST_NUMBERS];
     let mut points = [0i64; MOST_NUMBERS];
-    read_degrees(file, at, &mut degrees[..s]);
-    read_numbers(file, after(file, at, s), &mut coefficients[..m]);
-    read_numbers(file, after(file, at, s + m), &mut points[..n]);
+    read_numbers(file, at, &mut degrees[..s], |bits| bits as usize);
+    read_numbers(file, after(file, at, s), &mut coefficients[..m], |bits| bits.cast_signed());
+    read_numbers(file, after(file, at, s + m), &mut points[..n], |bits| bits.cast_signed());
     print_answer(
         out,
         card_writer::write(&degrees[..s], &coefficients[..m], &points[..n], card),
@@ -189,7 +136,7 @@ fn answer_at(out: &mut impl Write, file: &[u8], at: usize) -> io::Result<usize>
     let room = least(word(file, after(file, at, 1)), MOST_ROOM);
     let end = call_at(out, file, at, &mut card[..room])?;
     print_bytes(out, &card[..room])?;
-    put(out, b'\n')?;
+    writeln!(out)?;
     Ok(end)
 }
 
@@ -199,7 +146,7 @@ fn answer_all(out: &mut impl Write, file: &[u8]) -> io::Result<()> {
     while at < file.len() {
         let end = answer_at(out, file, at)?;
         if end <= at {
-            return Ok(());
+            break;
         }
         at = end;
     }
