@@ -68,13 +68,6 @@ fn first_pair(bytes: &[u8]) -> u16 {
     }
 }
 
-// A byte as a wider number.
-pub fn wide(x: u8) -> usize
-    ensures { result < 256 }
-{
-    usize::from(x)
-}
-
 // The byte at a place.
 pub fn byte(file: &[u8], at: usize) -> usize
     ensures { result < 256 }
