@@ -1,5 +1,5 @@
-// The numbers of document 01, each in one place: those that refuse ("Cause, and what the caller gets"; from 16 on, document 02) and the limits of a card
-// and of a run.
+// Why a call refuses, each cause with its number (document 01, "Cause, and what the caller gets"; from 16 on, document 02), and the limits of a card and
+// of a run.
 #![tactic(auto)]
 
 ghost use Rattle.std.specs.Prelude.{◌≡◌};
@@ -11,7 +11,7 @@ use std::fmt;
 
 // ---- why a call refuses
 
-// Why a call refuses.
+// Why a call refuses, and the number that a caller gets.
 #[derive(Clone, Copy, Debug, PartialEq, Eq)]
 pub enum Refusal {
     WrongLength = 1, // the card is shorter or longer than it says, or a list of coefficients is not as long as the degrees say
@@ -94,46 +94,6 @@ impl Error for Refusal {}
 
 impl Error for UnknownNumber {}
 
-// ---- the numbers that refuse
-
-pub const NONE: u16 = 0; // not refused
-
-pub const WRONG_LENGTH: u16 = 1; // the card is shorter or longer than it says, or a list of coefficients is not as long as the degrees say
-
-pub const WRONG_BYTE: u16 = 2; // byte 0 or byte 3 is wrong
-
-pub const WRONG_COUNT: u16 = 3; // s or n is outside its limits
-
-pub const WRONG_OFFSET: u16 = 4; // an offset is other than the place its body begins
-
-pub const WRONG_COEFFICIENT: u16 = 5; // a coefficient is outside its limits
-
-pub const WRONG_POINT: u16 = 6; // a point is outside its limits or falling
-
-pub const LATE: u16 = 7; // an answer after done or closed; rows wanted before done or after closed
-
-pub const BAD_FIRST: u16 = 8; // the first answer is below 0 or above 64
-
-pub const BAD_LATER: u16 = 9; // a later answer is outside −n .. n
-
-pub const NO_COUNTS: u16 = 10; // a round's answers fit no counts
-
-pub const WRONG_LIST: u16 = 11; // the solver's list is not rising, too long, or not of s polynomials, or there are not as many numbers
-
-pub const NO_SOLUTION: u16 = 12; // the solver's numbers have no solution
-
-pub const WRONG_PRODUCT: u16 = 13; // the product number is above 3^s − 1
-
-pub const PAST_LAST: u16 = 14; // the position is past the last polynomial or row
-
-pub const TOO_SHORT: u16 = 15; // an output slice is too short
-
-pub const WRONG_DEGREE: u16 = 16; // a degree is above 6
-
-pub const ZERO_TOP: u16 = 17; // the top coefficient is 0 though the degree is not
-
-pub const WRONG_TERMS: u16 = 18; // of a polynomial in the plane: over 9 terms, powers above 6 together, terms that do not rise, or a coefficient of 0
-
 // ---- the limits
 
 pub const MOST_POLYNOMIALS: usize = 8;
@@ -177,16 +137,9 @@ const CARD_NUMBERS: [u16; 9] = [
     Refusal::WrongTerms as u16,
 ];
 
-// Whether a number stands in a list.
-fn is_among(k: u16, list: &[u16]) -> bool
-    ensures { result ≡ is_among k list.now }
-{
-    list.contains(&k)
-}
-
 // Whether this is one of the numbers that refuse a card.
 pub fn is_card_number(k: u16) -> bool
     ensures { result ≡ is_among k card_numbers }
 {
-    is_among(k, &CARD_NUMBERS)
+    CARD_NUMBERS.contains(&k)
 }
