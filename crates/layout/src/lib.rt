@@ -12,13 +12,6 @@ ghost use Rattle.layout.specs.Format.{bodies_at, offset, size, word, coefficient
 use polynomials::MOST_COEFFICIENTS;
 use refusals::MOST_COEFFICIENT;
 
-// A byte as a wider number.
-pub fn wide(x: u8) -> usize
-    ensures { (result ≡ x) × (result < 256) }
-{
-    usize::from(x)
-}
-
 // The byte where the first body begins, after s + 1 offsets.
 pub fn bodies_at(card: &[u8]) -> usize
     requires { 2 ≤ length card.now }

@@ -19,7 +19,6 @@ ghost use Rattle.card_points.specs.Places.{Placed};
 ghost use Rattle.query.specs.Opened.{sign_word, opened_sound, opened, counts_on, own_refusal, opened_answer};
 ghost use Rattle.query.specs.Query.{query_answer};
 
-use layout::wide;
 use refusals::{MOST_POINTS, MOST_POLYNOMIALS, Refusal};
 use sign_counts::SignCounts;
 use signs::{Product, bound, power};
@@ -56,7 +55,7 @@ fn mark(card: &[u8], j: usize, from: usize, at: &[u8; MOST_POINTS], n: usize) ->
     let mut positive: u64 = 0;
     let mut negative: u64 = 0;
     for k in (0..n).rev() {
-        let d = card_signs::sign(card, j, &p, from, wide(at[k]));
+        let d = card_signs::sign(card, j, &p, from, usize::from(at[k]));
         positive = 2 * positive + signs::bit(d, 1) as u64;
         negative = 2 * negative + signs::bit(d, 2) as u64;
     }
