@@ -54,7 +54,7 @@ sign-d-requires c =
       c.requires.1,
       c.coefficients-p.ensures,
       c.requires.2,
-      rw c.from.ensures.from_gives (placed_there _ c.requires.0 _ c.args.n c.requires.3 (k - 1) (omega arith)),
+      rw c.from.ensures (placed_there _ c.requires.0 _ c.args.n c.requires.3 (k - 1) (omega arith)),
     )
 
 -- the digit of the sign at the turn's point, and room for its bit
@@ -72,7 +72,7 @@ turn c =
     let S = c.requires.0 in
     let P = c.requires.3 in
     record {
-      digit = c.sign-d.ensures ∙ ap (λ (k : ℕ). sign_digit ((contents_of w).value j (card_point w k))) c.from.ensures.from_gives;
+      digit = c.sign-d.ensures ∙ ap (λ (k : ℕ). sign_digit ((contents_of w).value j (card_point w k))) c.from.ensures;
       room = (roomy w S _ n P 1 j c.loop-k.k _ h c.loop-k.invariant.1, roomy w S _ n P 2 j c.loop-k.k _ h c.loop-k.invariant.2);
     }
 
