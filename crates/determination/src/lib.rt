@@ -19,7 +19,7 @@ use run_record::{CLOSED, DONE, Run, Step};
 use signs::Pattern;
 
 // A row: a pattern and how many points have it.
-#[derive(Clone, Copy)]
+#[derive(Clone, Copy, Debug, PartialEq, Eq)]
 pub struct Row {
     pub pattern: Pattern,
     pub count: u16,
@@ -96,13 +96,11 @@ pub fn answer_through(run: Run, a: i64) -> Answered
 }
 
 // Whether the run is done, and its rows can be had: at most 64. The rows themselves are not looked at.
+#[tactic(auto, using(std::proofs::lemmas::Bool::Decides::nat_tests), unfolding(run_record::specs::Record::is_done))]
 fn done(run: Run) -> bool
     ensures { result ≡ is_done run }
 {
-    if run.phase != DONE {
-        return false;
-    }
-    run.rows <= MOST_ROWS
+    run.phase == DONE && run.rows <= MOST_ROWS
 }
 
 // The row at position p of a run that is done: 7 before done and after closed, 14 past the last row.

@@ -34,7 +34,7 @@ pub const DONE: u8 = 1;
 pub const CLOSED: u8 = 2;
 
 // What an answer gives: the next product to ask, done, or why it is refused. 8, 9 and 10 close the run; 7 leaves it as it was.
-#[derive(Clone, Copy)]
+#[derive(Clone, Copy, Debug, PartialEq, Eq)]
 pub enum Step {
     Ask(Product),
     Done,
