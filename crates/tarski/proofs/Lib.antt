@@ -1,4 +1,5 @@
 pub mod FlatSteps
+pub mod Plain
 pub mod DemandTwo
 pub mod DemandThree
 pub mod DemandOne

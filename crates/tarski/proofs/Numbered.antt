@@ -6,7 +6,7 @@ use mathlib.Core.HLevel.{Σ_set}
 use mathlib.Core.Logic.{◌≢◌}
 use mathlib.Core.Bool.{Bool, true, false, cond}
 use mathlib.Core.List.{List, is_set}
-use Prim.Native.Nat.{ℕ, zero, suc, ◌^◌}
+use Prim.Native.Nat.{ℕ, zero, suc, ◌^◌, ◌≤◌}
 use native.Mathlib.Nat.{ℕ_set}
 use native.Mathlib.Omega.{arith}
 use borrow.Author.Tests.{ne_eqb}
@@ -18,13 +18,14 @@ use ghost.Sets.{retract_set}
 use lib.Dec.{ltb, eqb-suc-zero}
 use lib.IntN.{ℤ, ℤ_set}
 use lib.ListN.{length}
-use Rattle.refusals.specs.Numbers.{wrong_count, too_short, card_numbers, is_among, ◌when◌, ◌▸◌, unless}
+use Rattle.refusals.specs.Numbers.{wrong_count, wrong_product, too_short, card_numbers, is_among, ◌when◌, ◌▸◌, unless}
+use Rattle.refusals.specs.Refusals.{by_number}
+use Rattle.refusals.proofs.Refusals.{number_by}
 use Rattle.query.specs.Opened.{opened, summed, unlimited, own_number, own_refusal}
 use Rattle.query.specs.declared.Opened.{Opened}
-use Rattle.query_list.specs.Listing.{first_bad, numbers_put, listing, card_listing, opened_listing}
+use Rattle.query.proofs.Listed.{card_number}
+use Rattle.query_list.specs.Listing.{Listed, written, refused, refused_at, first_bad, numbers_put, listing, card_listing, opened_listing}
 use Rattle.query_list.specs.Claim.{QueryAllGives, AskAllGives}
-use Rattle.query_list.specs.declared.Numbered.{Numbered}
-use Rattle.query_list.specs.declared.Numbered.TheVariants.{Written, Refused, RefusedAt}
 use Rattle.query_list.proofs.Listing.{listing-opened}
 use Rattle.query_list.proofs.Calls.{card-gives, opened_list}
 use Rattle.determination.proofs.Worlds.{World, Held, fact_held}
@@ -36,37 +37,47 @@ use Rattle.tarski.specs.contracts.tarski_ask_all as ask-all
 
 -- ---- an answer as plain numbers, and back
 
--- 13 is no number that refuses a card
-own_not_13 : (m : ℕ) (u : Bool) → (own_number m ▸ wrong_count when u) ≢ 13
-own_not_13 zero true e = omega arith
-own_not_13 zero false e = omega arith
-own_not_13 (suc m) u e = go (is_among (suc m) card_numbers) refl e
+-- 13 is no number that refuses a card, and each is that of a refusal
+pub record Own (m : ℕ) : Type 0 where
+  pub no_product : m ≢ 13
+  pub most : m ≤ 18
+
+own-number : (m : ℕ) (u : Bool) → Own (own_number m ▸ wrong_count when u)
+own-number zero true = record { no_product = λ e. omega arith; most = omega arith }
+own-number zero false = record { no_product = λ e. omega arith; most = omega arith }
+own-number (suc m) u = go (is_among (suc m) card_numbers) refl
   where
-    go : (t : Bool) → is_among (suc m) card_numbers ≡ t → (cond t (suc m) wrong_count ▸ wrong_count when u) ≢ 13
-    go false f g = omega arith
-    go true f g = unfold is_among card_numbers in
-        let x : false ≡ true = rw g at f in let y : ◌≡◌ {A = ℕ} 0 1 = cc in omega arith
+    go : (t : Bool) → is_among (suc m) card_numbers ≡ t → Own (cond t (suc m) wrong_count ▸ wrong_count when u)
+    go false f = record { no_product = λ e. omega arith; most = omega arith }
+    go true f = record {
+      no_product = λ g. unfold is_among card_numbers in
+          let x : false ≡ true = rw g at f in let y : ◌≡◌ {A = ℕ} 0 1 = cc in omega arith;
+      most = (card_number (suc m) f).1;
+    }
 
-then_not_13 : (m : ℕ) (t : Bool) → m ≢ 13 → (m ▸ too_short when t) ≢ 13
-then_not_13 zero true h e = omega arith
-then_not_13 zero false h e = omega arith
-then_not_13 (suc m) t h e = h e
+then-own : (m : ℕ) (t : Bool) → Own m → Own (m ▸ too_short when t)
+then-own zero true h = record { no_product = λ e. omega arith; most = omega arith }
+then-own zero false h = h
+then-own (suc m) t h = h
 
-module _ (Gives : Numbered → Type 0) where
-  plain_of : (k p : ℕ) (t : Bool) (out w : List ℤ) → k ≢ 13
-      → let a = (unless {A = Numbered × List ℤ} k (λ m. (Refused m, out)) (cond t (RefusedAt 13 p, out) (Written, w))).0 in
+module _ (Gives : Listed → Type 0) where
+  plain_of : (k p : ℕ) (t : Bool) (out w : List ℤ) → Own k
+      → let a = (unless {A = Listed × List ℤ} k (λ m. (refused (by_number m), out)) (cond t (refused_at (by_number wrong_product) p, out) (written, w))).0 in
       Gives a → ListPlain Gives (flat_numbered_of a)
   unfolding flat_numbered_of numbered_from
   plain_of zero p true out w h g = record { gives = g; no_position = λ n. absurd (n refl) }
   plain_of zero p false out w h g = record { gives = g; no_position = λ n. refl }
-  plain_of (suc k) p t out w h g = record { gives = rw (eqb-suc-zero k, ne_eqb (suc k) 13 h) g; no_position = λ n. refl }
+  plain_of (suc k) p t out w h g = record {
+    gives = rw (number_by (suc k) (omega arith) h.most, eqb-suc-zero k, ne_eqb (suc k) 13 h.no_product) g;
+    no_position = λ n. refl;
+  }
 
   plain : (k : Opened) (l : List ℕ) (out : List ℤ) → let a = (opened_listing k l out).0 in Gives a → ListPlain Gives (flat_numbered_of a)
   unfolding listing own_refusal
   plain k l out =
       let p = first_bad (3 ^ k.s) l in
       plain_of (own_refusal k ▸ too_short when ltb (length out) (length l)) p (ltb p (length l)) out (numbers_put (summed k) l out)
-      (then_not_13 (own_refusal k) (ltb (length out) (length l)) (own_not_13 k.refusal (unlimited k)))
+      (then-own (own_refusal k) (ltb (length out) (length l)) (own-number k.refusal (unlimited k)))
 
 -- ---- the calls
 

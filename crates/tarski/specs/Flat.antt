@@ -3,8 +3,7 @@
 --   card_of a                        == s and n of a sound card; no polynomials and no points where it is refused
 --   value_of a                       == a value, or 0 where it is refused
 --   flat_counts_of a                  == the panel number of a query and its three counts; 0 for each where it is refused
---   list_refusal_of a                 == the number that refuses a call for an adapted list, or 0
---   refusal_of a                     == the number that refuses a solver's call, or 0
+--   refusal_of a                     == the number that refuses a call for an adapted list or of the solver, or 0
 --   flat_step_of a                    == a step of a run: 0 with the product to ask, 1 done, 2 with the number that refuses
 --   flat_answered_of t                == the record after a call on a run, and its step as plain numbers
 --   kept_on r t                      == the record and the step t of a start in the lent record r: refused, it is as it was (3: "all lent
@@ -14,18 +13,12 @@
 --   row_of a                         == a row fetched; 0 and 0 where it is refused
 --   copied_of a                      == how many rows were copied; none where it is refused
 --   left_of c                        == how many rows were copied, and the two slices as they are left
-use Rattle.std.specs.Prelude.{◌≡◌, List, ℕ, ℤ, pos}
-use Rattle.card.specs.declared.Card.{Card}
-use Rattle.card.specs.declared.Card.TheVariants as of-card
-use Rattle.card.specs.declared.Evaluated.{Evaluated}
-use Rattle.card.specs.declared.Evaluated.TheVariants as of-value
-use Rattle.adapted_list.specs.declared.Listed.{Listed}
-use Rattle.adapted_list.specs.declared.Listed.TheVariants as of-list
+use Rattle.std.specs.Prelude.{◌≡◌, List, ℕ, ℤ, pos, Result, Ok, Err}
+use Rattle.card.specs.declared.Shape.{Shape}
 use Rattle.sign_counts.specs.Counts.{panel_number}
-use Rattle.query.specs.declared.Queried.{Queried}
-use Rattle.query.specs.declared.Queried.TheVariants as of-query
-use Rattle.solver.specs.declared.Solved.{Solved}
-use Rattle.solver.specs.declared.Solved.TheVariants as of-solver
+use Rattle.sign_counts.specs.declared.SignCounts.{SignCounts}
+use Rattle.refusals.specs.Refusals.{number_of}
+use Rattle.refusals.specs.declared.Refusal.{Refusal}
 use Rattle.runs.specs.Run.{State, Step, ask, done, refused, Fetch, row, no_row, Copied, copied, not_copied, Copy}
 use Rattle.refusals.specs.Numbers.{wrong_count}
 use Rattle.run_record.specs.Record.{state_of, AnswerGives, started_of}
@@ -37,26 +30,22 @@ use Rattle.tarski.specs.declared.FlatStep.{FlatStep}
 use Rattle.tarski.specs.declared.FlatRow.{FlatRow}
 use Rattle.tarski.specs.declared.FlatCopied.{FlatCopied}
 
-unfoldable pub card_of : Card → Checked
-card_of (of-card.Sound s n) = record { polynomials = s; points = n; refusal = 0 }
-card_of (of-card.Refused k) = record { polynomials = 0; points = 0; refusal = k }
+unfoldable pub card_of : Result Shape Refusal → Checked
+card_of (Ok c) = record { polynomials = c.polynomials; points = c.points; refusal = 0 }
+card_of (Err e) = record { polynomials = 0; points = 0; refusal = number_of e }
 
-unfoldable pub value_of : Evaluated → Number
-value_of (of-value.Value z) = record { number = z; refusal = 0 }
-value_of (of-value.Refused k) = record { number = pos 0; refusal = k }
+unfoldable pub value_of : Result ℤ Refusal → Number
+value_of (Ok z) = record { number = z; refusal = 0 }
+value_of (Err e) = record { number = pos 0; refusal = number_of e }
 
-unfoldable pub flat_counts_of : Queried → FlatCounts
-flat_counts_of (of-query.Counts t) =
+unfoldable pub flat_counts_of : Result SignCounts Refusal → FlatCounts
+flat_counts_of (Ok t) =
     record { number = panel_number t; positive = t.positive; negative = t.negative; zero = t.zero; refusal = 0 }
-flat_counts_of (of-query.Refused k) = record { number = pos 0; positive = 0; negative = 0; zero = 0; refusal = k }
+flat_counts_of (Err e) = record { number = pos 0; positive = 0; negative = 0; zero = 0; refusal = number_of e }
 
-unfoldable pub list_refusal_of : Listed → ℕ
-list_refusal_of of-list.Written = 0
-list_refusal_of (of-list.Refused k) = k
-
-unfoldable pub refusal_of : Solved → ℕ
-refusal_of of-solver.Found = 0
-refusal_of (of-solver.Refused k) = k
+unfoldable pub refusal_of : Result (Unit {0}) Refusal → ℕ
+refusal_of (Ok u) = 0
+refusal_of (Err e) = number_of e
 
 unfoldable pub flat_step_of : Step → FlatStep
 flat_step_of (ask p) = record { kind = 0; value = p }

@@ -1,28 +1,21 @@
 -- What the plain numbers that the library's calls give stand for, in the words of the calls below it and of the rules of a run. `Flat` goes
 -- the other way.
 --
---   listed_from k   == what a call for an adapted list gives: written where the number is 0, else refused by it
---   solved_from k   == what a solver's call gives: found where the number is 0, else refused by it
+--   answered_from k == what a call for an adapted list or of the solver gives: its result where the number is 0, else refused by it
 --   step_from t     == the step: kind 0 asks the product, 1 is done, any other refuses with the number
 --   fetch_from t    == the row fetched where the refusal is 0, else the number that refuses
 --   copied_from t   == how many rows were copied where the refusal is 0, else the number that refuses
 --   copy_from t a b == the same, with the two slices a and b as they are left
-use Rattle.std.specs.Prelude.{cond, List, ℕ, eqb}
-use Rattle.refusals.specs.Numbers.{unless}
-use Rattle.adapted_list.specs.declared.Listed.{Listed}
-use Rattle.adapted_list.specs.declared.Listed.TheVariants as of-list
-use Rattle.solver.specs.declared.Solved.{Solved}
-use Rattle.solver.specs.declared.Solved.TheVariants as of-solver
+use Rattle.std.specs.Prelude.{cond, List, ℕ, eqb, Result}
+use Rattle.refusals.specs.Refusals.{checked}
+use Rattle.refusals.specs.declared.Refusal.{Refusal}
 use Rattle.runs.specs.Run.{Step, ask, done, refused, Fetch, row, no_row, Copied, copied, not_copied, Copy}
 use Rattle.tarski.specs.declared.FlatStep.{FlatStep}
 use Rattle.tarski.specs.declared.FlatRow.{FlatRow}
 use Rattle.tarski.specs.declared.FlatCopied.{FlatCopied}
 
-unfoldable pub listed_from : ℕ → Listed
-listed_from k = unless k of-list.Refused of-list.Written
-
-unfoldable pub solved_from : ℕ → Solved
-solved_from k = unless k of-solver.Refused of-solver.Found
+abbrev pub answered_from : ℕ → Result (Unit {0}) Refusal
+answered_from k = checked k
 
 unfoldable pub step_from : FlatStep → Step
 step_from t = cond (eqb t.kind 0) (ask t.value) (cond (eqb t.kind 1) done (refused t.value))

@@ -5,5 +5,5 @@ use Rattle.tarski.proofs.tarski_start.Goals as goal
 
 pub returns : goal.returns
 returns c =
-    let s = c.start_lent-step in
-    flat_start c.args.run.now s.new.run c.args.s (step_of s.result) c.flat_step.result s.ensures c.flat_step.ensures
+    let s = c.start_lent in
+    flat_start c.args.run.now s.new.run c.args.s (step_of s.result) c.into.result s.ensures c.into.ensures
