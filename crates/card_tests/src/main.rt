@@ -7,7 +7,7 @@
 
 ghost use Rattle.std.specs.Prelude.{◌+◌, ◌≤◌, ◌<◌, length, IfOk};
 
-use card::{Shape, Stretch};
+use card::Stretch;
 use refusals::Refusal;
 use sign_counts::SignCounts;
 use signs::Product;
@@ -64,14 +64,9 @@ fn print_position(out: &mut impl Write, card: &[u8], j: usize) -> io::Result<()>
 
 fn print_card(out: &mut impl Write, card: &[u8]) -> io::Result<()> {
     match card::read(card) {
-        Ok(
-            Shape {
-                polynomials,
-                points,
-            },
-        ) => {
-            writeln!(out, "S {polynomials} {points}")?;
-            for j in 0..=polynomials {
+        Ok(shape) => {
+            writeln!(out, "S {} {}", shape.polynomials, shape.points)?;
+            for j in 0..=shape.polynomials {
                 print_position(out, card, j)?;
             }
             Ok(())
@@ -85,15 +80,11 @@ fn print_card(out: &mut impl Write, card: &[u8]) -> io::Result<()> {
 
 // The three counts of a query, and the panel number.
 fn print_counts(out: &mut impl Write, counts: SignCounts) -> io::Result<()> {
-    let SignCounts {
-        positive,
-        negative,
-        zero,
-    } = counts;
+    let number = sign_counts::panel_number(counts);
     write!(
         out,
-        " {positive} {negative} {zero} {}",
-        sign_counts::panel_number(counts)
+        " {} {} {} {number}",
+        counts.positive, counts.negative, counts.zero
     )
 }
 
