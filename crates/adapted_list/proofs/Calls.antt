@@ -86,7 +86,8 @@ module _ (s : ℕ) (L out : List ℕ) where
         rest = λ e. drop_at (adapted s L) (drop (length L) out) (length L) n;
       }
 
-  shown : (g : Result (Unit {0}) Refusal × List ℕ) → list_of s L out ≡ g → Gives s L out g.0 g.1 → Gives s L out (list_of s L out).0 (list_of s L out).1
+  shown : (g : Result (Unit {0}) Refusal × List ℕ) → list_of s L out ≡ g → Gives s L out g.0 g.1
+      → Gives s L out (list_of s L out).0 (list_of s L out).1
   shown g e d = rw e d
 
   -- the definition

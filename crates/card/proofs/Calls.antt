@@ -206,7 +206,8 @@ module _ (κs : Lfts 1) (card : Bor (List ℕ)) where
   unfolding value_answer
   value-gives j x o e = rw e (line-gives-at card.now _ _ j)
 
-  pub value-at-gives : (j : ℕ) (x y : ℤ) (o : Result ℤ Refusal) → evaluate-at.Learnt κs (card, (j, (x, (y, tt)))) o (card, (j, (x, (y, tt))))
+  pub value-at-gives : (j : ℕ) (x y : ℤ) (o : Result ℤ Refusal)
+      → evaluate-at.Learnt κs (card, (j, (x, (y, tt)))) o (card, (j, (x, (y, tt))))
       → ValueAtGives card.now j (x, y) o
   unfolding value_at_answer
   value-at-gives j x y o e = rw e (place-gives-at card.now _ _ j (x, y))

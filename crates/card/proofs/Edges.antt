@@ -12,7 +12,8 @@ use Rattle.integers.specs.Sums.{sum_to}
 use Rattle.integers.specs.Powers.{power}
 use Rattle.layout.specs.Format.{two's, offset, word}
 use Rattle.layout.specs.Values.{value, value_of}
-use Rattle.refusals.specs.declared.Refusal.TheVariants.{WrongLength, WrongByte, WrongCount, WrongOffset, WrongCoefficient, WrongPoint, PastLast, WrongDegree, ZeroTop}
+use Rattle.refusals.specs.declared.Refusal.TheVariants.{WrongLength, WrongByte, WrongCount, WrongOffset, WrongCoefficient, WrongPoint}
+use Rattle.refusals.specs.declared.Refusal.TheVariants.{PastLast, WrongDegree, ZeroTop}
 use Rattle.integers.specs.Search.{any_below}
 use Rattle.card.specs.Card.{contents_refusal, header_refusal, polynomial_refusal, coefficients_refusal, bodies_refusal}
 use Rattle.card.specs.Card.{points_refusal, refusal, position_refusal}

@@ -1,5 +1,6 @@
 -- The points: one outside its limits, or below the one before it.
-use Rattle.std.proofs.Common.{◌≡◌, ◌+◌, Ordering, Less, Equal, Greater, Bool, true, false, not, ◌||◌, List, [], ◌∷◌, get_or, ℤ, pos, nat_abs, refl, sym, add-one, arith}
+use Rattle.std.proofs.Common.{◌≡◌, ◌+◌, Ordering, Less, Equal, Greater, Bool, true, false, not, ◌||◌, List, [], ◌∷◌, get_or, ℤ, pos}
+use Rattle.std.proofs.Common.{nat_abs, refl, sym, add-one, arith}
 use Rattle.std.proofs.lemmas.Int.{ints}
 use Rattle.std.proofs.lemmas.Cmp.{int_ranked}
 use Rattle.std.specs.Ordering.{MatchOrdering, int_cmp, is_le}

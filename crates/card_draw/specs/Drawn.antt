@@ -7,7 +7,8 @@
 --   drawn_card seed s n d    == the card of s polynomials of degree d and n points; "Points come next": after the coefficients
 --   draw_cause s n d         == "In a draw s and n are refused by 3, then d by 16": the number, or 0
 --   drawing seed s n d out  == the answer of a call with the buffer out, and what the buffer holds then
-use Rattle.std.specs.Prelude.{cond, ◌||◌, ◌&&◌, List, [], ◌++◌, ℕ, zero, suc, ◌+◌, ◌*◌, ltb, eqb, ℤ, pos, nat_abs, Result, get_or, set, replicate}
+use Rattle.std.specs.Prelude.{cond, ◌||◌, ◌&&◌, List, [], ◌++◌, ℕ, zero, suc, ◌+◌, ◌*◌, ltb, eqb, ℤ, pos, nat_abs, Result, get_or, set}
+use Rattle.std.specs.Prelude.{replicate}
 use Rattle.refusals.specs.Numbers.{wrong_count, wrong_degree, ◌when◌, ◌▸◌}
 use Rattle.refusals.specs.Limits.{most_polynomials, most_points, most_degree}
 use Rattle.refusals.specs.declared.Refusal.{Refusal}

@@ -57,7 +57,8 @@ module _ (κs : Lfts 4) (ds : Bor (List ℕ)) (cs ps : Bor (List ℤ)) (out out'
       ((read_gives κ card o l).inside same_lists.sound tt ∙ rw (e, s, k) refl, same_lists)
 
   -- and its polynomials have the values that the coefficients given say
-  pub write_value : (j : ℕ) → j < length ds.now → (x : ℤ) (o : Result ℤ Refusal) → evaluated.Learnt κ (card, (j, (x, tt))) o (card, (j, (x, tt)))
+  pub write_value : (j : ℕ) → j < length ds.now → (x : ℤ) (o : Result ℤ Refusal)
+      → evaluated.Learnt κ (card, (j, (x, tt))) o (card, (j, (x, tt)))
       → o ≡ Ok (evaluate (part ds.now cs.now j) x)
   write_value j h x o l =
       let (w, e) = written-card in

@@ -141,10 +141,12 @@ module _ (o : Opened) (α : ℕ) (z : ℤ) (r : Run) (step : code_step.Step) (ou
   unfolding on_step Plays
   step-asks p out' b h l = known (steps.Ask p) out' b (asking o (state_of r) p.0) false h (record { line = l; left = refl })
 
-  pub step-refuses : (d : Refusal) (out' : List ℕ) (b : ℕ) (t : ProgressState) → step ≡ steps.Refused d → PutLine out at (refusal_line (number_of d)) out' b
+  pub step-refuses : (d : Refusal) (out' : List ℕ) (b : ℕ) (t : ProgressState) → step ≡ steps.Refused d
+      → PutLine out at (refusal_line (number_of d)) out' b
       → Goal out' b t true
   unfolding on_step
-  step-refuses d out' b t h l = known (steps.Refused d) out' b t true h (over-line o (state_of r) out (refusal_line (number_of d)) out' at b t l)
+  step-refuses d out' b t h l = known (steps.Refused d) out' b t true h
+      (over-line o (state_of r) out (refusal_line (number_of d)) out' at b t l)
 
   abbrev rows : List Row
   rows = rows_with (take r.rows r.patterns) (take r.rows r.counts)

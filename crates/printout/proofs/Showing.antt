@@ -19,7 +19,9 @@ use Rattle.run_record.specs.declared.Run.{Run}
 use Rattle.run_record.specs.declared.Step as code_step
 use Rattle.run_record.specs.declared.Step.TheVariants as steps
 use Rattle.determination.specs.declared.Row.{Row}
-use Rattle.refusals.specs.declared.Refusal.TheVariants.{WrongLength, WrongByte, WrongCount, WrongOffset, WrongCoefficient, WrongPoint, Late, BadFirst, BadLater, NoCounts, WrongList, NoSolution, WrongProduct, PastLast, TooShort, WrongDegree, ZeroTop, WrongTerms}
+use Rattle.refusals.specs.declared.Refusal.TheVariants.{WrongLength, WrongByte, WrongCount, WrongOffset, WrongCoefficient, WrongPoint, Late}
+use Rattle.refusals.specs.declared.Refusal.TheVariants.{BadFirst, BadLater, NoCounts, WrongList, NoSolution, WrongProduct, PastLast}
+use Rattle.refusals.specs.declared.Refusal.TheVariants.{TooShort, WrongDegree, ZeroTop, WrongTerms}
 use Rattle.runs.specs.Run.{State, Step, Fetch, answer_of, fetch_of}
 use Rattle.run_record.specs.Record.{state_of, step_of, started_of}
 use Rattle.determination.specs.Served.{fetched_of}
@@ -106,7 +108,8 @@ module _ (o : Printed) (card : Opened) (run : Run) (α : ℕ) (x y : Result Sign
       → Shows o (on_answer card (state_of run) α y)
   unfolding on_answer
   not_shown d e m =
-      subst (λ (v : Result SignCounts Refusal). Shows o (on_answer card (state_of run) α v)) (sym e ∙ same) (shown o card run stages.Over (refusal_line (number_of d)) m)
+      subst (λ (v : Result SignCounts Refusal). Shows o (on_answer card (state_of run) α v)) (sym e ∙ same)
+      (shown o card run stages.Over (refusal_line (number_of d)) m)
 
 -- ---- a row
 
@@ -148,7 +151,8 @@ module _ (o : Printed) (card : Opened) (run : Run) (p : ℕ) (x : Result Row Ref
       subst (λ (v : Fetch). Shows o (on_fetch card (state_of run) p v)) (ap fetched_of (sym e) ∙ same)
       (shown o card run stages.Over (end_line (state_of run).total) m)
 
-  pub row-refused : (d : Refusal) → x ≡ Err d → eqb (number_of d) past_last ≡ false → Made o card run stages.Over (refusal_line (number_of d))
+  pub row-refused : (d : Refusal) → x ≡ Err d → eqb (number_of d) past_last ≡ false
+      → Made o card run stages.Over (refusal_line (number_of d))
       → Shows o (on_fetch card (state_of run) p y)
   unfolding on_fetch
   row-refused d e h m =

@@ -44,7 +44,8 @@ use Rattle.query.proofs.ask.Reads as ask
 shown-refused : (m : ℕ) → Listed m → shown_of (refusing m) ≡ refused m
 shown-refused m h = ap refused (listed_number m h)
 
-shown-gives : {c : List ℕ} {In : Type 0} {what r : Shown} → CardGives c In 13 (λ m. shown_of (refusing m)) what r → CardGives c In 13 refused what r
+shown-gives : {c : List ℕ} {In : Type 0} {what r : Shown} → CardGives c In 13 (λ m. shown_of (refusing m)) what r
+    → CardGives c In 13 refused what r
 unfolding Listed
 shown-gives {c} g = record {
   inside = g.inside;
@@ -156,5 +157,6 @@ opened_tells o α = record {
 }
 
 -- DEMAND 1 of a query on an opened card, whatever it holds
-pub demand1_opened : (k : Opened) (a : Product) (o : Result SignCounts Refusal) → ask.Learnt tt (k, (a, tt)) o (k, (a, tt)) → OpenedTells k a.0 o
+pub demand1_opened : (k : Opened) (a : Product) (o : Result SignCounts Refusal) → ask.Learnt tt (k, (a, tt)) o (k, (a, tt))
+    → OpenedTells k a.0 o
 demand1_opened k a o e = rw e (opened_tells k a.0)

@@ -34,8 +34,25 @@ among_within (k ∷ l) m h e = go (eqb m k) refl e (among_within l m h.1)
 pub card_number : (m : ℕ) → is_among m card_numbers ≡ true → (0 < m) × (m ≤ 18)
 unfolding card_numbers
 card_number m e =
-    among_within card_numbers m
-    ((omega arith, omega arith), ((omega arith, omega arith), ((omega arith, omega arith), ((omega arith, omega arith), ((omega arith, omega arith), ((omega arith, omega arith), ((omega arith, omega arith), ((omega arith, omega arith), ((omega arith, omega arith), tt))))))))) e
+    among_within card_numbers m (
+      (omega arith, omega arith),
+      (
+        (omega arith, omega arith),
+        (
+          (omega arith, omega arith),
+          (
+            (omega arith, omega arith),
+            (
+              (omega arith, omega arith),
+              (
+                (omega arith, omega arith),
+                ((omega arith, omega arith), ((omega arith, omega arith), ((omega arith, omega arith), tt))),
+              ),
+            ),
+          ),
+        ),
+      ),
+    ) e
 
 pub listed_within : (m : ℕ) → Listed m → (0 < m) × (m ≤ 18)
 unfolding Listed

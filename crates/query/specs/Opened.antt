@@ -23,7 +23,8 @@
 --                       limits, then 13 for the product. No card opens to a number of none or outside the limits: an opened card may hold
 --                       anything
 --   opened_answer o α == what the opened card o answers to the product α: the number that refuses, else the three counts
-use Rattle.std.specs.Prelude.{Bool, cond, ◌||◌, List, [], ◌∷◌, map, ℕ, zero, suc, ◌+◌, ◌*◌, ◌/◌, ◌%◌, ◌^◌, eqb, ltb, leb, ℤ, length, get_or, Result, Ok}
+use Rattle.std.specs.Prelude.{Bool, cond, ◌||◌, List, [], ◌∷◌, map, ℕ, zero, suc, ◌+◌, ◌*◌, ◌/◌, ◌%◌, ◌^◌, eqb, ltb, leb, ℤ, length, get_or}
+use Rattle.std.specs.Prelude.{Result, Ok}
 use Rattle.std.specs.Prelude.{replicate}
 use Rattle.refusals.specs.Numbers.{wrong_count, wrong_product, card_numbers, is_among, ◌when◌, ◌▸◌, unless}
 use Rattle.refusals.specs.Refusals.{refusing}

@@ -43,7 +43,8 @@ numbers_put number l out = map number l ++ drop (length l) out
 unfoldable pub listing : ℕ → ℕ → (ℕ → ℤ) → List ℕ → List ℤ → Listed × List ℤ
 listing m s number l out =
     unless (m ▸ too_short when ltb (length out) (length l)) (λ k. (refused (by_number k), out))
-    (cond (ltb (first_bad (3 ^ s) l) (length l)) (refused_at (by_number wrong_product) (first_bad (3 ^ s) l), out) (written, numbers_put number l out))
+    (cond (ltb (first_bad (3 ^ s) l) (length l)) (refused_at (by_number wrong_product) (first_bad (3 ^ s) l), out)
+    (written, numbers_put number l out))
 
 abbrev pub card_listing : List ℕ → List ℕ → List ℤ → Listed × List ℤ
 card_listing c l out = listing (refusal c) (polynomials c) (query_of c) l out

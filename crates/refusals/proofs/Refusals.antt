@@ -1,10 +1,13 @@
 -- Laws of the refusals and their numbers.
-use Rattle.std.proofs.Common.{◌≡◌, ◌≢◌, Bool, true, false, List, [], ◌∷◌, ℕ, zero, suc, ◌+◌, ◌-◌, ◌<◌, ◌≤◌, length, get_or, Result, Ok, Err, IsErrAnd, refl, sym, ap, ◌∙◌, arith}
+use Rattle.std.proofs.Common.{◌≡◌, ◌≢◌, Bool, true, false, List, [], ◌∷◌, ℕ, zero, suc, ◌+◌, ◌-◌, ◌<◌, ◌≤◌, length, get_or, Result, Ok, Err}
+use Rattle.std.proofs.Common.{IsErrAnd, refl, sym, ap, ◌∙◌, arith}
 use Rattle.std.proofs.lemmas.Result.{err_from_is_err_and}
 use Rattle.refusals.specs.Numbers.{◌when◌, ◌▸◌, unless}
 use Rattle.refusals.specs.Refusals.{number_of, refusals, by_number, refusing, checked}
 use Rattle.refusals.specs.declared.Refusal.{Refusal}
-use Rattle.refusals.specs.declared.Refusal.TheVariants.{WrongLength, WrongByte, WrongCount, WrongOffset, WrongCoefficient, WrongPoint, Late, BadFirst, BadLater, NoCounts, WrongList, NoSolution, WrongProduct, PastLast, TooShort, WrongDegree, ZeroTop, WrongTerms}
+use Rattle.refusals.specs.declared.Refusal.TheVariants.{WrongLength, WrongByte, WrongCount, WrongOffset, WrongCoefficient, WrongPoint, Late}
+use Rattle.refusals.specs.declared.Refusal.TheVariants.{BadFirst, BadLater, NoCounts, WrongList, NoSolution, WrongProduct, PastLast}
+use Rattle.refusals.specs.declared.Refusal.TheVariants.{TooShort, WrongDegree, ZeroTop, WrongTerms}
 
 -- a refusal is the one with its number
 pub by_own : (e : Refusal) → by_number (number_of e) ≡ e
@@ -38,7 +41,28 @@ numbered_at (e ∷ l) k zero h i = h.0 ∙ omega arith
 numbered_at (e ∷ l) k (suc n) h i = numbered_at l (suc k) n h.1 (omega arith) ∙ omega arith
 
 all_numbered : Numbered refusals 1
-all_numbered = (refl, (refl, (refl, (refl, (refl, (refl, (refl, (refl, (refl, (refl, (refl, (refl, (refl, (refl, (refl, (refl, (refl, (refl, tt))))))))))))))))))
+all_numbered = (
+  refl,
+  (
+    refl,
+    (
+      refl,
+      (
+        refl,
+        (
+          refl,
+          (
+            refl,
+            (
+              refl,
+              (refl, (refl, (refl, (refl, (refl, (refl, (refl, (refl, (refl, (refl, (refl, tt))))))))))),
+            ),
+          ),
+        ),
+      ),
+    ),
+  ),
+)
 
 -- and the refusal with a number has it
 pub number_by : (m : ℕ) → 0 < m → m ≤ 18 → number_of (by_number m) ≡ m

@@ -6,9 +6,13 @@
 --   refusing m    == what a call gives that is refused by the number m
 --   checked m     == what a check gives that finds the cause with the number m, or 0 where it finds none
 use Rattle.std.specs.Prelude.{◌≡◌, ◌⊎◌, List, [], ◌∷◌, get_or, ℕ, ◌-◌, ◌<◌, Result, Ok, Err, MatchResult}
-use Rattle.refusals.specs.Numbers.{wrong_length, wrong_byte, wrong_count, wrong_offset, wrong_coefficient, wrong_point, late, bad_first, bad_later, no_counts, wrong_list, no_solution, wrong_product, past_last, too_short, wrong_degree, zero_top, wrong_terms, unless}
+use Rattle.refusals.specs.Numbers.{wrong_length, wrong_byte, wrong_count, wrong_offset, wrong_coefficient, wrong_point, late, bad_first}
+use Rattle.refusals.specs.Numbers.{bad_later, no_counts, wrong_list, no_solution, wrong_product, past_last, too_short, wrong_degree}
+use Rattle.refusals.specs.Numbers.{zero_top, wrong_terms, unless}
 use Rattle.refusals.specs.declared.Refusal.{Refusal}
-use Rattle.refusals.specs.declared.Refusal.TheVariants.{WrongLength, WrongByte, WrongCount, WrongOffset, WrongCoefficient, WrongPoint, Late, BadFirst, BadLater, NoCounts, WrongList, NoSolution, WrongProduct, PastLast, TooShort, WrongDegree, ZeroTop, WrongTerms}
+use Rattle.refusals.specs.declared.Refusal.TheVariants.{WrongLength, WrongByte, WrongCount, WrongOffset, WrongCoefficient, WrongPoint, Late}
+use Rattle.refusals.specs.declared.Refusal.TheVariants.{BadFirst, BadLater, NoCounts, WrongList, NoSolution, WrongProduct, PastLast}
+use Rattle.refusals.specs.declared.Refusal.TheVariants.{TooShort, WrongDegree, ZeroTop, WrongTerms}
 use Rattle.refusals.specs.declared.UnknownNumber.{UnknownNumber}
 
 abbrev pub number_of : Refusal → ℕ

@@ -50,7 +50,8 @@ data Case (s : ℕ) (L : List ℕ) (xs out : List ℤ) (r : Result (Unit {0}) Re
   count : (CountFits s → ⊥) → r ≡ Err WrongCount → left ≡ out → Case s L xs out r left
   list : CountFits s → (ListFits s L xs → ⊥) → r ≡ Err WrongList → left ≡ out → Case s L xs out r left
   room : CountFits s → ListFits s L xs → (RoomFits L out → ⊥) → r ≡ Err TooShort → left ≡ out → Case s L xs out r left
-  unsolved : CountFits s → ListFits s L xs → RoomFits L out → (Solvable s L xs → ⊥) → r ≡ Err NoSolution → left ≡ out → Case s L xs out r left
+  unsolved : CountFits s → ListFits s L xs → RoomFits L out → (Solvable s L xs → ⊥) → r ≡ Err NoSolution → left ≡ out
+      → Case s L xs out r left
   solved : CountFits s → ListFits s L xs → RoomFits L out → (ws : List ℤ) → Solution s L xs ws → r ≡ Ok tt
       → left ≡ ws ++ drop (length L) out → Case s L xs out r left
 
@@ -231,7 +232,8 @@ pub solve_claims : (s : ℕ) (L : List ℕ) (xs out : List ℤ) → SolverClaim 
 solve_claims s L xs out = claim_of s L xs out (solve_of s L xs out).0 (solve_of s L xs out).1 (case_of s L xs out)
 
 -- every call of `solve`, on any arguments
-pub solver_claim : (κs : Lfts 3) (s : ℕ) (patterns : Bor (List ℕ)) (numbers : Bor (List ℤ)) (out out' : MutBor (List ℤ)) (r : Result (Unit {0}) Refusal)
+pub solver_claim : (κs : Lfts 3) (s : ℕ) (patterns : Bor (List ℕ)) (numbers : Bor (List ℤ)) (out out' : MutBor (List ℤ))
+    (r : Result (Unit {0}) Refusal)
     → solve.Learnt κs (s, (patterns, (numbers, (out, tt)))) r (s, (patterns, (numbers, (out', tt))))
     → SolverClaim s patterns.now numbers.now out.now r out'.now
 solver_claim κs s patterns numbers out out' r k = rw (k.0, k.1) (solve_claims s patterns.now numbers.now out.now)

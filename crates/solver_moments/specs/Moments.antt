@@ -21,7 +21,8 @@
 --   Fitting w L at d e g ws     == ws are the whole numbers of the patterns L, one each, and their absolute values add up to at most 64
 --   CombinedBoth w L at d e g d₂ e₂ g₂ u v r == r is Some where the patterns L have such numbers from the moments d, e, g and from d₂, e₂,
 --                                  g₂, and then u and v hold them; else None
-use Rattle.std.specs.Prelude.{◌≡◌, Bool, cond, not, Option, Some, None, List, [], ◌∷◌, ℕ, zero, suc, ◌+◌, ◌*◌, ◌/◌, ◌%◌, ◌<◌, ◌≤◌, eqb, leb, ℤ}
+use Rattle.std.specs.Prelude.{◌≡◌, Bool, cond, not, Option, Some, None, List, [], ◌∷◌, ℕ, zero, suc, ◌+◌, ◌*◌, ◌/◌, ◌%◌, ◌<◌, ◌≤◌, eqb, leb}
+use Rattle.std.specs.Prelude.{ℤ}
 use Rattle.std.specs.Prelude.{pos, ◌+ℤ◌, ◌-ℤ◌, length, get_or, set}
 use Rattle.refusals.specs.Limits.{most_points}
 use Rattle.integers.specs.Sums.{sum_abs, Within}
@@ -83,6 +84,7 @@ pub record Fitting (w : ℕ) (L at : List ℕ) (d e g ws : List ℤ) : Type 0 wh
   pub numbers : (k : ℕ) → k < length L → NumberAt w L at d e g k (get_or ws k (pos 0))
   pub small : sum_abs ws ≤ most_points
 
-abbrev pub CombinedBoth : ℕ → List ℕ → List ℕ → List ℤ → List ℤ → List ℤ → List ℤ → List ℤ → List ℤ → List ℤ → List ℤ → Option (Unit {0}) → Type 0
+abbrev pub CombinedBoth : ℕ → List ℕ → List ℕ → List ℤ → List ℤ → List ℤ → List ℤ → List ℤ → List ℤ → List ℤ → List ℤ → Option (Unit {0})
+    → Type 0
 CombinedBoth w L at d e g d₂ e₂ g₂ u v (Some _) = Fitting w L at d e g u × Fitting w L at d₂ e₂ g₂ v
 CombinedBoth w L at d e g d₂ e₂ g₂ u v None = (us vs : List ℤ) → Fitting w L at d e g us → Fitting w L at d₂ e₂ g₂ vs → ⊥

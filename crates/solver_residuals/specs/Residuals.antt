@@ -14,8 +14,10 @@
 --                            == m is Some where the numbers x with u, and y with v, less the `digit_sum` of each product of a, are in
 --                               −64 .. 64, and then r and s are they; else None
 --   ResidualsBoth i l v w A x y r s m
---                            == m is Some where the residuals of x with v, and of y with w, are in −64 .. 64, and then r and s are they; else None
-use Rattle.std.specs.Prelude.{◌≡◌, Bool, ◌||◌, Option, Some, None, List, [], ◌∷◌, ℕ, ◌+◌, ◌^◌, ◌<◌, ◌≤◌, leb, ltb, ℤ, pos, nat_abs, ◌+ℤ◌, ◌-ℤ◌}
+--                            == m is Some where the residuals of x with v, and of y with w, are in −64 .. 64, and then r and s are they;
+--                            else None
+use Rattle.std.specs.Prelude.{◌≡◌, Bool, ◌||◌, Option, Some, None, List, [], ◌∷◌, ℕ, ◌+◌, ◌^◌, ◌<◌, ◌≤◌, leb, ltb, ℤ, pos, nat_abs, ◌+ℤ◌}
+use Rattle.std.specs.Prelude.{◌-ℤ◌}
 use Rattle.std.specs.Prelude.{◌*ℤ◌, length, get_or, take}
 use Rattle.refusals.specs.Limits.{most_points}
 use Rattle.integers.specs.Sums.{Within}
@@ -55,7 +57,8 @@ pub record Gathered (i : ℕ) (l : List ℕ) (v : List ℤ) (n : ℕ) (o t : Lis
   pub small : (j : ℕ) → j < n → nat_abs (get_or u j (pos 0)) ≤ most_moment
 
 abbrev pub SubtractedBoth : ℕ → (a o t : List ℕ) → (u v x y r s : List ℤ) → Option (Unit {0}) → Type 0
-SubtractedBoth i a o t u v x y r s (Some _) = Subtracted i a o t u x r × Subtracted i a o t v y s × Within most_points r × Within most_points s
+SubtractedBoth i a o t u v x y r s (Some _) = Subtracted i a o t u x r × Subtracted i a o t v y s × Within most_points r
+    × Within most_points s
 SubtractedBoth i a o t u v x y r s None =
     (r' s' : List ℤ) → Subtracted i a o t u x r' → Subtracted i a o t v y s' → Within most_points r' → Within most_points s' → ⊥
 

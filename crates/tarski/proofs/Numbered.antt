@@ -62,7 +62,8 @@ then-own (suc m) t h = h
 
 module _ (Gives : Listed → Type 0) where
   plain_of : (k p : ℕ) (t : Bool) (out w : List ℤ) → Own k
-      → let a = (unless {A = Listed × List ℤ} k (λ m. (refused (by_number m), out)) (cond t (refused_at (by_number wrong_product) p, out) (written, w))).0 in
+      → let a = (unless {A = Listed × List ℤ} k (λ m. (refused (by_number m), out))
+      (cond t (refused_at (by_number wrong_product) p, out) (written, w))).0 in
       Gives a → ListPlain Gives (flat_numbered_of a)
   unfolding flat_numbered_of numbered_from
   plain_of zero p true out w h g = record { gives = g; no_position = λ n. absurd (n refl) }

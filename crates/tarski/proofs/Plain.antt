@@ -61,7 +61,8 @@ module _ {A B : Type 0} (f : Result A Refusal → B) (g : ℕ → B) (same : (m 
     unsound = λ n. ((k.unsound n).0, ap f (k.unsound n).1 ∙ own-same _ (k.unsound n).0);
   }
 
-  pub opened_numbered : {o : Opened} {α : ℕ} {what r : Result A Refusal} → OpenedGives o α refusing what r → OpenedGives o α g (f what) (f r)
+  pub opened_numbered : {o : Opened} {α : ℕ} {what r : Result A Refusal} → OpenedGives o α refusing what r
+      → OpenedGives o α g (f what) (f r)
   opened_numbered k = record {
     own = λ h. ap f (k.own h) ∙ own-same _ h;
     no_card's = λ n h. ap f (k.no_card's n h) ∙ same 3 (omega arith) (omega arith);

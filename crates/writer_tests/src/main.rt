@@ -103,8 +103,18 @@ fn write_at(
     let mut coefficients = [0i64; MOST_NUMBERS];
     let mut points = [0i64; MOST_NUMBERS];
     read_numbers(file, at, &mut degrees[..s], |bits| bits as usize);
-    read_numbers(file, after(file, at, s), &mut coefficients[..m], |bits| bits.cast_signed());
-    read_numbers(file, after(file, at, s + m), &mut points[..n], |bits| bits.cast_signed());
+    read_numbers(
+        file,
+        after(file, at, s),
+        &mut coefficients[..m],
+        |bits| bits.cast_signed(),
+    );
+    read_numbers(
+        file,
+        after(file, at, s + m),
+        &mut points[..n],
+        |bits| bits.cast_signed(),
+    );
     print_answer(
         out,
         card_writer::write(&degrees[..s], &coefficients[..m], &points[..n], card),

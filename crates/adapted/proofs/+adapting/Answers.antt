@@ -25,7 +25,8 @@ adapted-overflow_sub-i t c =
 
 pub adapted-adapted_split-requires : goal.adapted-adapted_split-requires
 adapted-adapted_split-requires t c =
-    let h : 1 ≤ c.args.i = some_polynomial c.args.i c.args.l.now c.requires.rising.0 c.requires.rising.1 (λ e. omega arith) (λ e. omega arith)
+    let h : 1 ≤ c.args.i = some_polynomial c.args.i c.args.l.now c.requires.rising.0 c.requires.rising.1 (λ e. omega arith)
+    (λ e. omega arith)
     in
     let e : suc (c.args.i - 1) ≡ c.args.i = omega arith in (
       omega arith,
@@ -34,7 +35,8 @@ adapted-adapted_split-requires t c =
 
 pub adapted-returns-in_default-clause-out_after : goal.adapted-returns-in_default-clause-out_after
 adapted-returns-in_default-clause-out_after t c =
-    let h : 1 ≤ c.args.i = some_polynomial c.args.i c.args.l.now c.requires.rising.0 c.requires.rising.1 (λ e. omega arith) (λ e. omega arith)
+    let h : 1 ≤ c.args.i = some_polynomial c.args.i c.args.l.now c.requires.rising.0 c.requires.rising.1 (λ e. omega arith)
+    (λ e. omega arith)
     in
     let e : suc (c.args.i - 1) ≡ c.args.i = omega arith in
     rw e at c.adapted_split.ensures.out_after

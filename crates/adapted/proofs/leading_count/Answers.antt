@@ -9,5 +9,6 @@ use Rattle.adapted.proofs.leading_count.Goals as goal
 
 pub returns : goal.returns
 returns c =
-    let p = position_from_yields_List (leb c.args.bound) _ _ c.position.result c.position.ensures.ran (YieldsList-from_slice c.args.l.now cc) (λ x b q k. search (rules, tests)) in
+    let p = position_from_yields_List (leb c.args.bound) _ _ c.position.result c.position.ensures.ran
+    (YieldsList-from_slice c.args.l.now cc) (λ x b q k. search (rules, tests)) in
     c.unwrap_or.ensures ∙ leading_found _ _ _ p

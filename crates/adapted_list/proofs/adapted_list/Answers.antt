@@ -1,4 +1,5 @@
--- `adapted_list::adapted_list` meets its contract. The refusals need no answer; of the list written, what `adapted` requires and what it leaves.
+-- `adapted_list::adapted_list` meets its contract. The refusals need no answer; of the list written, what `adapted` requires and what it
+-- leaves.
 use mathlib.Core.Path.{sym, ap, ◌∙◌}
 use Prim.Native.Nat.{◌^◌, ◌<◌, ◌≤◌}
 use native.Mathlib.Omega.{arith}

@@ -28,4 +28,5 @@ same_place c j at len e f = rw (f, e) refl
 
 pub returns : goal.returns
 unfolding stretch
-returns c = ap Ok (same_place c.args.card.now c.args.j _ _ c.offset-start.ensures c.body_size.ensures) ∙ gone_on _ c.in_ok-check_position.ensures (Ok (place c.args.card.now c.args.j))
+returns c = ap Ok (same_place c.args.card.now c.args.j _ _ c.offset-start.ensures c.body_size.ensures)
+    ∙ gone_on _ c.in_ok-check_position.ensures (Ok (place c.args.card.now c.args.j))

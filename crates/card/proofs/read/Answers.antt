@@ -27,4 +27,5 @@ same_shape c s n e f = rw (e, f) refl
 
 pub returns : goal.returns
 unfolding reading
-returns c = ap Ok (same_shape c.args.card.now _ _ c.from.ensures c.from-2.ensures) ∙ gone_on _ c.in_ok-check_card.ensures (Ok (shape c.args.card.now))
+returns c = ap Ok (same_shape c.args.card.now _ _ c.from.ensures c.from-2.ensures)
+    ∙ gone_on _ c.in_ok-check_card.ensures (Ok (shape c.args.card.now))

@@ -76,7 +76,8 @@ evaluate-requires c = (
 pub returns : goal.returns
 unfolding value_answer
 returns c =
-    ap Ok (to_z-of_z {w = w64} (sfits_of c.evaluate.type_inv) ∙ c.evaluate.ensures ∙ ap (evaluate c.coefficients-p.result) (same c.ranges.x c.from.ensures)
+    ap Ok (to_z-of_z {w = w64} (sfits_of c.evaluate.type_inv) ∙ c.evaluate.ensures
+    ∙ ap (evaluate c.coefficients-p.result) (same c.ranges.x c.from.ensures)
     ∙ its_value _ _ _ (passed_none _ c.in_ok-check_position.ensures) (passed_none _ c.in_ok-check_kind.ensures) c.offset.ensures _
     c.coefficients-p.ensures _)
     ∙ gone_on _ c.in_ok-check_position.ensures _ ∙ gone_on_then _ _ c.in_ok-check_kind.ensures _

@@ -61,5 +61,6 @@ loop-k-preserved c =
     elim c.if-fresh.branch [
       | then-fresh w ↦ rw (w.at-is, w.found-is)
           (found_new _ _ _ c.loop-k.k c.loop-k.invariant (omega (arith, c.requires.0.n_most)) (turned _ _ c.fresh.ensures w.if-fresh.true))
-      | else-fresh w ↦ rw (w.at-is, w.found-is) (found_again _ _ _ c.loop-k.k c.loop-k.invariant (turned_not _ _ c.fresh.ensures w.if-fresh.false))
+      | else-fresh w ↦ rw (w.at-is, w.found-is) (found_again _ _ _ c.loop-k.k c.loop-k.invariant
+          (turned_not _ _ c.fresh.ensures w.if-fresh.false))
     ]

@@ -14,7 +14,9 @@ use Rattle.plane_checks.proofs.Terms.{cause-some, least_next, too_high, falls, r
 use Rattle.plane_checks.proofs.check_terms.Goals as goal
 use Rattle.plane_checks.proofs.check_terms.Goals.{then-a-b-gt-MOST_DEGREE-via-then-a-b-gt-MOST_DEGREE as by-powers}
 use Rattle.plane_checks.proofs.check_terms.Goals.{then-a-b-gt-MOST_DEGREE-via-else-a-b-gt-MOST_DEGREE+then-place-least as by-order}
-use Rattle.plane_checks.proofs.check_terms.Goals.{then-a-b-gt-MOST_DEGREE-via-else-a-b-gt-MOST_DEGREE+else-place-least+then-word-eq0 as by-zero}
+use Rattle.plane_checks.proofs.check_terms.Goals.{
+  then-a-b-gt-MOST_DEGREE-via-else-a-b-gt-MOST_DEGREE+else-place-least+then-word-eq0 as by-zero,
+}
 
 -- the four bytes w, which are v: 0, or not
 module _ (v w : ℕ) (e : w ≡ v) where

@@ -53,7 +53,8 @@ module _ (p : List ℤ) (x : ℤ) (s : Within most_coefficient p) (b : nat_abs x
       ∙ sym (from_more (λ k. get_or p k (pos 0)) x n (6 - n)))
 
   -- the same of what the machine holds
-  module _ (v : ℕ) (c : ℤ) (f : SFits w64 x) (g : c ≡ coef) (e : to_z w64 v ≡ from (λ k. get_or p k (pos 0)) (to_z w64 (of_z w64 x)) (7 - n) n) where
+  module _ (v : ℕ) (c : ℤ) (f : SFits w64 x) (g : c ≡ coef) (e : to_z w64 v
+      ≡ from (λ k. get_or p k (pos 0)) (to_z w64 (of_z w64 x)) (7 - n) n) where
     product : to_z w64 v *ℤ to_z w64 (of_z w64 x) ≡ sofar *ℤ x
     product = rw (e, to_z-of_z f)
 
@@ -123,5 +124,7 @@ loop-c-preserved c =
 pub returns : goal.returns
 returns c =
     let all = YieldsList-from_rev_slice {s = c.into_iter-c-iterator.result} c.args.p.now (cc) in
-    let t = YieldsList-end all c.loop-c.yielded c.loop-c.c-iterator c.loop-c.yielded_by c.next.result c.next.new.self c.in-None.is c.next.ensures.steps in
-    whole _ _ (length c.loop-c.yielded) c.loop-c.v-bits c.ranges.x (omega (arith, t.1, length-reverse c.args.p.now, c.told-p)) c.loop-c.invariant.value
+    let t = YieldsList-end all c.loop-c.yielded c.loop-c.c-iterator c.loop-c.yielded_by c.next.result c.next.new.self c.in-None.is
+    c.next.ensures.steps in
+    whole _ _ (length c.loop-c.yielded) c.loop-c.v-bits c.ranges.x (omega (arith, t.1, length-reverse c.args.p.now, c.told-p))
+    c.loop-c.invariant.value

@@ -14,8 +14,12 @@ use Rattle.printout.proofs.put_lines.Goals.{At-loop-k}
 
 pub loop-k-init : goal.loop-k-init
 loop-k-init c =
-    let o = c.open-opened in
-    (omega arith, c.requires, left_begin c.args.card.now o.result _ o.ensures (λ a b. ap (λ (x : State × Step). x.0) c.start.ensures.by_rules))
+    let o = c.open-opened in (
+      omega arith,
+      c.requires,
+      left_begin c.args.card.now o.result _ o.ensures
+          (λ a b. ap (λ (x : State × Step). x.0) c.start.ensures.by_rules),
+    )
 
 -- what is written is short
 module _ (c : At-loop-k) where

@@ -56,11 +56,13 @@ returns c =
     let P = c.args.patterns.now in
     let C = c.args.counts.now in
     let k = length c.loop-pattern.yielded in
-    let z = zip_end P C c.loop-pattern.yielded c.into_iter-pattern-iterator.result c.loop-pattern.pattern-iterator c.next.new.self c.next.result
+    let z = zip_end P C c.loop-pattern.yielded c.into_iter-pattern-iterator.result c.loop-pattern.pattern-iterator c.next.new.self
+    c.next.result
     (cc) (cc) c.loop-pattern.yielded_by c.in-None.is c.next.ensures.steps in
     let e : k ≡ length P = omega (arith, z, c.requires.0) in
     let f : take k P ≡ P = rw e (take-length P) in
     let g : take k C ≡ C = rw (e, ← c.requires.0) (take-length C) in record {
-      put = put_same (together_more (row_lines (rows_with P C)) _) (put_more (rw (f, g) at c.loop-pattern.invariant.2) c.put_end.ensures.put);
+      put = put_same (together_more (row_lines (rows_with P C)) _)
+          (put_more (rw (f, g) at c.loop-pattern.invariant.2) c.put_end.ensures.put);
       upper_bound = omega (arith, e, c.put_end.ensures.fits, c.loop-pattern.invariant.1);
     }

@@ -4,7 +4,8 @@ use Rattle.std.specs.Prelude.{Err}
 use Rattle.query.proofs.Opening.{beyond, within, crowded, limits}
 use Rattle.query.proofs.Own.{checked-numbered, checked-unlimited, checked-limited}
 use Rattle.query.proofs.check_opened.Goals as goal
-use Rattle.query.proofs.check_opened.Goals.{After-contains, then-not-contains-via-then-not-contains, then-not-contains-via-else-not-contains+then-card-gt-MOST_POINTS}
+use Rattle.query.proofs.check_opened.Goals.{After-contains, then-not-contains-via-then-not-contains}
+use Rattle.query.proofs.check_opened.Goals.{then-not-contains-via-else-not-contains+then-card-gt-MOST_POINTS}
 
 pub returns-then-card-ne-NOT_REFUSED : goal.returns-then-card-ne-NOT_REFUSED
 returns-then-card-ne-NOT_REFUSED c = ap Err c.refusal_by.ensures ∙ checked-numbered c.args.card c.if-card-ne-NOT_REFUSED.true

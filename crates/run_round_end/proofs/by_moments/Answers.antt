@@ -23,10 +23,10 @@ solve_pair-requires c =
 pub returns-in_err-solve_pair : goal.returns-in_err-solve_pair
 returns-in_err-solve_pair c =
     rw (
-    c.from_residual.ensures,
-    moments_none c.args.i c.args.patterns.now c.args.counts.now c.args.x.now c.args.y.now c.requires.i_lt_most_polynomials.1
-    c.requires.i_lt_most_polynomials.2 c.requires.i_lt_most_polynomials.3
-    (proper_here (goal.at.returns-in_err-solve_pair c).Start) c.in_err-solve_pair.ensures
+      c.from_residual.ensures,
+      moments_none c.args.i c.args.patterns.now c.args.counts.now c.args.x.now c.args.y.now c.requires.i_lt_most_polynomials.1
+          c.requires.i_lt_most_polynomials.2 c.requires.i_lt_most_polynomials.3
+          (proper_here (goal.at.returns-in_err-solve_pair c).Start) c.in_err-solve_pair.ensures,
     )
     refl
 

@@ -19,7 +19,8 @@ returns-then-count-eq0 c =
 
 pub loop-count-preserved : goal.loop-count-preserved
 loop-count-preserved c =
-    c.loop-count.invariant ∙ counts_here c.loop-count.left c.args.counts.now c.loop-count.count-index (omega arith) (omega arith) (omega arith)
+    c.loop-count.invariant ∙ counts_here c.loop-count.left c.args.counts.now c.loop-count.count-index (omega arith) (omega arith)
+    (omega arith)
 
 pub returns : goal.returns
 returns c =

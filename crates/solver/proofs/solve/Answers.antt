@@ -30,9 +30,9 @@ outside : (c : goal.Joined-then-s-eq0) →
 outside c =
     let a = c.args in
     elim c.then-s-eq0.branch [
-        then-s-eq0-via-then-s-eq0 w ↦ refused_none a.s a.patterns.now a.numbers.now a.out.now w.if-s-eq0.true
+      | then-s-eq0-via-then-s-eq0 w ↦ refused_none a.s a.patterns.now a.numbers.now a.out.now w.if-s-eq0.true
       | then-s-eq0-via-else-s-eq0+then-s-gt-MOST_POLYNOMIALS w ↦
-        refused-many a.s a.patterns.now a.numbers.now a.out.now w.if-s-gt-MOST_POLYNOMIALS.true
+          refused-many a.s a.patterns.now a.numbers.now a.out.now w.if-s-gt-MOST_POLYNOMIALS.true
     ]
 
 pub returns-then-s-eq0 : goal.returns-then-s-eq0

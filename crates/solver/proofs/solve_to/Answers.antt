@@ -32,7 +32,7 @@ returns-in_err-ok_or-clause-out_after c =
     rw e₀ refl
 
 pub returns-in_err-ok_or-2-clause-value : goal.returns-in_err-ok_or-2-clause-value
-returns-in_err-ok_or-2-clause-value c = 
+returns-in_err-ok_or-2-clause-value c =
     let a = c.args in
     let m : c.copy_small.result ≡ Some tt = grind arith in
     let W = rw m at c.copy_small.ensures in

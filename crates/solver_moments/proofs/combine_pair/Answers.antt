@@ -19,7 +19,8 @@ use Rattle.solver_moments.proofs.Loops.{doubled_at, doubled_small, halving_small
 use Rattle.solver_moments.proofs.Loops.{combining_first, combining_next, combining_last}
 use Rattle.solver_moments.proofs.combine_pair.Goals as goal
 use Rattle.solver_moments.proofs.combine_pair.Goals.{After-doubled-x, After-doubled-y, After-loop-k, At-loop-k, In-loop-k}
-use Rattle.solver_moments.proofs.combine_pair.Goals.{then-odd-via-then-odd, then-odd-via-else-odd+then-sum-gt-DOUBLE, then-odd-via-else-odd+else-sum-gt-DOUBLE+then-sum2-gt-DOUBLE}
+use Rattle.solver_moments.proofs.combine_pair.Goals.{then-odd-via-then-odd, then-odd-via-else-odd+then-sum-gt-DOUBLE}
+use Rattle.solver_moments.proofs.combine_pair.Goals.{then-odd-via-else-odd+else-sum-gt-DOUBLE+then-sum2-gt-DOUBLE}
 
 -- ---- what is known in every turn
 -- the doubles of the two systems

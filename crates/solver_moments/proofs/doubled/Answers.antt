@@ -18,7 +18,8 @@ returns-then-q-w c =
     let t : a.q / a.w ≡ 0 = div-eq_of_lt c.if-q-w.true in
     let d = get_or a.d.now a.j (pos 0) in
     let g = get_or a.g.now a.j (pos 0) in
-    rw (back d (search rules), back g (search rules), back (d -ℤ g) (search rules), t, back (pos 2 *ℤ (d -ℤ g)) (search rules)) (2-*ℤ (d -ℤ g))
+    rw (back d (search rules), back g (search rules), back (d -ℤ g) (search rules), t, back (pos 2 *ℤ (d -ℤ g)) (search rules))
+    (2-*ℤ (d -ℤ g))
 
 pub returns-then-q-w-2 : goal.returns-then-q-w-2
 unfolding doubled_of

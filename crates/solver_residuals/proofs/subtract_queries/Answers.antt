@@ -17,7 +17,8 @@ use Rattle.solver_residuals.proofs.Gathering.{not_small}
 use Rattle.integers.proofs.Abs.{abs_dif}
 use Rattle.solver_residuals.proofs.subtract_queries.Goals as goal
 use Rattle.solver_residuals.proofs.subtract_queries.Goals.{After-queries_by_digits-z}
-use Rattle.solver_residuals.proofs.subtract_queries.Goals.{then-not-is_small-via-then-not-is_small, then-not-is_small-via-else-not-is_small+then-not-is_small-2}
+use Rattle.solver_residuals.proofs.subtract_queries.Goals.{then-not-is_small-via-then-not-is_small}
+use Rattle.solver_residuals.proofs.subtract_queries.Goals.{then-not-is_small-via-else-not-is_small+then-not-is_small-2}
 
 -- the number that remains at h, small
 abbrev Remains : (i : ℕ) (a o t : List ℕ) (u x : List ℤ) → ℕ → ℤ → Type 0

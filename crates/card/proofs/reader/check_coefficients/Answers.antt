@@ -13,7 +13,8 @@ use Rattle.layout.proofs.Twos.{abs_word, abs_word-zero}
 use Rattle.card.proofs.Polynomial.{large_coefficient, zero-top, sound_constant, sound-coefficients}
 use Rattle.card.proofs.reader.check_coefficients.Goals as goal
 use Rattle.card.proofs.reader.check_coefficients.Goals.{else-loop-i-test, then-loop-i-test+else-too_large+else-i-degree}
-use Rattle.card.proofs.reader.check_coefficients.Goals.{else-degree-gt0-via-then-degree-gt0+else-word-eq0, else-degree-gt0-via-else-degree-gt0}
+use Rattle.card.proofs.reader.check_coefficients.Goals.{else-degree-gt0-via-then-degree-gt0+else-word-eq0}
+use Rattle.card.proofs.reader.check_coefficients.Goals.{else-degree-gt0-via-else-degree-gt0}
 
 pub loop-i-init : goal.loop-i-init
 loop-i-init c = some_none _
@@ -46,7 +47,8 @@ module _ (c : List ℕ) (at d w : ℕ) (e : d ≡ degree c at) (f : w ≡ word c
 pub returns-then-word-eq0 : goal.returns-then-word-eq0
 returns-then-word-eq0 c =
     let a = c.args in
-    let none : any_below (λ k. outside 1000000 (coefficient a.card.now a.at k)) (degree a.card.now a.at + 1) ≡ false = elim c.loop-i-test.branch [
+    let none : any_below (λ k. outside 1000000 (coefficient a.card.now a.at k)) (degree a.card.now a.at + 1) ≡ false =
+    elim c.loop-i-test.branch [
       | else-loop-i-test w ↦ absurd (omega arith)
       | then-loop-i-test+else-too_large+else-i-degree w ↦ all_passed _ _ c.loop-i.i c.loop-i.invariant (cc) (omega arith)
     ] in
@@ -56,7 +58,8 @@ returns-then-word-eq0 c =
 pub returns : goal.returns
 returns c =
     let a = c.args in
-    let none : any_below (λ k. outside 1000000 (coefficient a.card.now a.at k)) (degree a.card.now a.at + 1) ≡ false = elim c.loop-i-test.branch [
+    let none : any_below (λ k. outside 1000000 (coefficient a.card.now a.at k)) (degree a.card.now a.at + 1) ≡ false =
+    elim c.loop-i-test.branch [
       | else-loop-i-test w ↦ absurd (omega arith)
       | then-loop-i-test+else-too_large+else-i-degree w ↦ all_passed _ _ c.loop-i.i c.loop-i.invariant (cc) (omega arith)
     ] in

@@ -15,7 +15,9 @@ use Rattle.card.proofs.reader.check_header.Goals.{then-not-is_kind-via-then-not-
 use Rattle.card.proofs.reader.check_header.Goals.{then-not-is_kind-via-else-not-is_kind+then-card-ne0 as by-zero}
 use Rattle.card.proofs.reader.check_header.Goals.{then-card-lt1-via-then-card-lt1 as no-s}
 use Rattle.card.proofs.reader.check_header.Goals.{then-card-lt1-via-else-card-lt1+then-card-gt-MOST_POLYNOMIALS as much-s}
-use Rattle.card.proofs.reader.check_header.Goals.{then-card-lt1-via-else-card-lt1+else-card-gt-MOST_POLYNOMIALS+then-card-gt-MOST_POINTS as much-n}
+use Rattle.card.proofs.reader.check_header.Goals.{
+  then-card-lt1-via-else-card-lt1+else-card-gt-MOST_POLYNOMIALS+then-card-gt-MOST_POINTS as much-n,
+}
 
 -- what the test of byte 0 says
 tested : (c : List ℕ) {t b : Bool} → t ≡ (eqb (byte c 0) 1 || eqb (byte c 0) 2) → t ≡ b → other c ≡ not b

@@ -13,7 +13,9 @@ use Rattle.card.specs.Card.{place_refusal}
 use Rattle.card.proofs.Positions.{place_far_x, place_far_y, place_held}
 use Rattle.card.proofs.reader.check_place.Goals as goal
 use Rattle.card.proofs.reader.check_place.Goals.{then-unsigned_abs-gt-FARTHEST-via-then-unsigned_abs-gt-FARTHEST as by-x}
-use Rattle.card.proofs.reader.check_place.Goals.{then-unsigned_abs-gt-FARTHEST-via-else-unsigned_abs-gt-FARTHEST+then-unsigned_abs-gt-FARTHEST-2 as by-y}
+use Rattle.card.proofs.reader.check_place.Goals.{
+  then-unsigned_abs-gt-FARTHEST-via-else-unsigned_abs-gt-FARTHEST+then-unsigned_abs-gt-FARTHEST-2 as by-y,
+}
 
 pub returns-in_err-check_position : goal.returns-in_err-check_position
 unfolding place_refusal
