@@ -7,6 +7,8 @@ use Prim.Native.Nat.{ℕ, zero, suc, ◌+◌, ◌*◌, ◌-◌, ◌/◌, ◌%◌
 use native.Mathlib.Omega.{arith}
 use native.Mathlib.Decide.{dec_lt}
 use native.Mathlib.Nat.{pow-suc, one-le-pow, mod-eq_of_lt, mod-lt, div-add-mod'}
+use mir.Syntax.{w16}
+use mir.Val.{Fits}
 use borrow.Author.Tests.{lt-ltb, le-ltb}
 use lib.Dec.{ltb}
 use lib.ListN.{length, length-append, get_or, get_or-append}
@@ -108,6 +110,10 @@ length_to (suc f) (suc k) n h = go (dec_lt n 10) (length_to f k (n / 10) (omega 
 pub decimal-length : (k n : ℕ) → n < 10 ^ suc k → length (decimal n) ≤ suc k
 unfolding decimal
 decimal-length k n h = length_to (suc n) k n h
+
+-- of a 16-bit number that was made a longer one
+pub decimal-length-16 : {m n : ℕ} → m ≡ n → Fits w16 n → length (decimal m) ≤ 5
+decimal-length-16 {m} e h = decimal-length 4 m (omega (arith, e, h))
 
 -- ---- its value, digit by digit from the front
 

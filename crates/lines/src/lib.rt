@@ -1,7 +1,8 @@
 // The lines of a printout (document 01, "One card through") as bytes. The four lines have no condition; what serves the crates above may have one.
 #![tactic(auto)]
 
-ghost use Rattle.std.specs.Prelude.{◌≡◌, [], ◌∷◌, ◌++◌, ◌+◌, ◌≤◌, ◌<◌, length};
+ghost use Rattle.std.specs.Prelude.{◌≡◌, [], ◌∷◌, ◌++◌, ◌+◌, ◌≤◌, ◌<◌, length, replicate};
+ghost use Rattle.std.specs.Fn.{FnOnceReturnsAtMut};
 ghost use Rattle.std.proofs.Math.Seq.{paste};
 ghost use Rattle.lines.specs.Text.{newline, space, digit, line_room, longest_line, decimal, signed, text_of, question_line, row_line, end_line, refusal_line};
 ghost use Rattle.lines.specs.Put.{Put, PutLine};
@@ -19,7 +20,7 @@ pub const LINE_ROOM: usize = 80;
 const MOST_DIGITS: usize = 20;
 
 // A line: its text is the front `length` bytes.
-#[derive(Clone, Copy)]
+#[derive(Clone, Copy, Debug, PartialEq, Eq)]
 pub struct Line {
     pub bytes: [u8; LINE_ROOM],
     pub length: usize,
@@ -136,7 +137,7 @@ pub fn put_question(out: &mut [u8], at: usize, product: u16, answer: i64) -> usi
     requires { at + longest_line ≤ length out.old }
     ensures { PutLine out.old at (question_line product answer) out.new result }
 {
-    let i = put_letter(out, at, b'Q', product as u64);
+    let i = put_letter(out, at, b'Q', u64::from(product));
     let j = put_byte(out, i, b' ');
     let k = put_integer(out, j, answer);
     put_byte(out, k, b'\n')
@@ -147,9 +148,9 @@ pub fn put_row(out: &mut [u8], at: usize, pattern: u16, count: u16) -> usize
     requires { at + longest_line ≤ length out.old }
     ensures { PutLine out.old at (row_line pattern count) out.new result }
 {
-    let j = put_letter(out, at, b'S', pattern as u64);
+    let j = put_letter(out, at, b'S', u64::from(pattern));
     let k = put_byte(out, j, b' ');
-    let m = put_natural(out, k, count as u64);
+    let m = put_natural(out, k, u64::from(count));
     put_byte(out, m, b'\n')
 }
 
@@ -166,38 +167,40 @@ pub fn put_refusal(out: &mut [u8], at: usize, number: u16) -> usize
     requires { at + longest_line ≤ length out.old }
     ensures { PutLine out.old at (refusal_line number) out.new result }
 {
-    put_last(out, at, b'R', number as u64)
+    put_last(out, at, b'R', u64::from(number))
+}
+
+// A line of its own: `put` writes its text to the front of the bytes, and returns where it ends.
+fn line_by<F: FnOnce(&mut [u8]) -> usize>(put: F) -> Line
+    requires { (out : _) → length out.now ≡ line_room → F.pre put out }
+    ensures { FnOnceReturnsAtMut F.FnOnce put (replicate line_room 0) result.length result.bytes }
+{
+    let mut bytes = [0u8; LINE_ROOM];
+    let length = put(&mut bytes);
+    Line { bytes, length }
 }
 
 // The same four as lines of their own.
 pub fn question_line(product: Product, answer: i64) -> Line
     ensures { (text_of result ≡ question_line product.0 answer) × (result.length ≤ line_room) }
 {
-    let mut bytes = [0u8; LINE_ROOM];
-    let length = put_question(&mut bytes, 0, product.0, answer);
-    Line { bytes, length }
+    line_by(|out| put_question(out, 0, product.0, answer))
 }
 
 pub fn row_line(pattern: Pattern, count: u16) -> Line
     ensures { (text_of result ≡ row_line pattern.0 count) × (result.length ≤ line_room) }
 {
-    let mut bytes = [0u8; LINE_ROOM];
-    let length = put_row(&mut bytes, 0, pattern.0, count);
-    Line { bytes, length }
+    line_by(|out| put_row(out, 0, pattern.0, count))
 }
 
 pub fn end_line(questions: usize) -> Line
     ensures { (text_of result ≡ end_line questions) × (result.length ≤ line_room) }
 {
-    let mut bytes = [0u8; LINE_ROOM];
-    let length = put_end(&mut bytes, 0, questions);
-    Line { bytes, length }
+    line_by(|out| put_end(out, 0, questions))
 }
 
 pub fn refusal_line(number: u16) -> Line
     ensures { (text_of result ≡ refusal_line number) × (result.length ≤ line_room) }
 {
-    let mut bytes = [0u8; LINE_ROOM];
-    let length = put_refusal(&mut bytes, 0, number);
-    Line { bytes, length }
+    line_by(|out| put_refusal(out, 0, number))
 }

@@ -4,4 +4,4 @@ use Rattle.lines.proofs.put_refusal.Goals as goal
 
 pub returns : goal.returns
 unfolding refusal_line
-returns c = c.put_last.ensures
+returns c = rw c.from.ensures at c.put_last.ensures
