@@ -6,9 +6,8 @@
 
 mod numeral;
 
-use card_writer::Written;
-use numeral::{Numeral, read_numeral};
-use refusals::LONGEST_LINE_CARD;
+use numeral::read_numeral;
+use refusals::{LONGEST_LINE_CARD, Refusal};
 use std::env::{Env, FillError};
 use std::io;
 use std::io::Write;
@@ -26,50 +25,44 @@ fn is_given(rt: &impl Env, i: usize) -> bool {
 }
 
 // The number that argument i is.
-fn argument(rt: &impl Env, i: usize) -> Numeral {
+fn argument(rt: &impl Env, i: usize) -> Option<u32> {
     let mut text = [0u8; MOST_TEXT];
-    match rt.arg(i, &mut text) {
-        Ok(n) => read_numeral(&text[..n]),
-        Err(_) => Numeral::Wrong,
+    let n = rt.arg(i, &mut text).ok()?;
+    read_numeral(&text[..n])
+}
+
+// The seed, s, n and d, if there are just these four arguments.
+fn arguments(rt: &impl Env) -> Option<(u32, u32, u32, u32)> {
+    if is_given(rt, ARGUMENTS) {
+        return None;
     }
+    Some((argument(rt, 1)?, argument(rt, 2)?, argument(rt, 3)?, argument(rt, 4)?))
 }
 
 fn say_usage(rt: &impl Eprint) -> io::Result<()> {
     eprintln!(rt; "usage: drawcard SEED S N D, each a number in decimal from 0 to 4294967295")
 }
 
-fn say_refused(rt: &impl Eprint, number: u16) -> io::Result<()> {
-    eprintln!(rt; "drawcard: refused by {number}")
+fn say_refused(rt: &impl Eprint, refusal: Refusal) -> io::Result<()> {
+    eprintln!(rt; "drawcard: refused by {refusal}")
 }
 
 // Writes the card, or says why there is none.
 fn write_card(rt: &(impl Print + Eprint), seed: u32, s: u32, n: u32, d: u32) -> io::Result<()> {
     let mut card = [0u8; LONGEST_LINE_CARD];
     match card_draw::draw(seed, s as usize, n as usize, d as usize, &mut card) {
-        Written::Length(length) => {
+        Ok(length) => {
             if length <= LONGEST_LINE_CARD {
                 io::writer(rt).write_all(&card[..length])?;
             }
             Ok(())
         }
-        Written::Refused(number) => say_refused(rt, number),
+        Err(refusal) => say_refused(rt, refusal),
     }
 }
 
 fn main(rt: HostRuntime) -> io::Result<()> {
-    if is_given(&rt, ARGUMENTS) {
-        return say_usage(&rt);
-    }
-    let Numeral::Number(seed) = argument(&rt, 1) else {
-        return say_usage(&rt);
-    };
-    let Numeral::Number(s) = argument(&rt, 2) else {
-        return say_usage(&rt);
-    };
-    let Numeral::Number(n) = argument(&rt, 3) else {
-        return say_usage(&rt);
-    };
-    let Numeral::Number(d) = argument(&rt, 4) else {
+    let Some((seed, s, n, d)) = arguments(&rt) else {
         return say_usage(&rt);
     };
     write_card(&rt, seed, s, n, d)

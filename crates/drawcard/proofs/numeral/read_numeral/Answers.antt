@@ -1,50 +1,55 @@
 -- `numeral::read_numeral` meets its contract: the number so far, with the bytes that are left, is the number that the text is.
-use mathlib.Core.Path.{◌≡◌, sym, ◌∙◌}
-use Prim.Native.Nat.{◌+◌, ◌-◌}
-use native.Mathlib.Omega.{arith}
-use lib.ListN.{length, drop, get_or}
-use Rattle.drawcard.proofs.Numerals.{from_digit, from_below, from_above, from_large, of_empty, of_start, from_place, from_end}
+use Rattle.std.proofs.Common.{◌≡◌, ℕ, ◌+◌, ◌<◌, length, drop, get_or, ◌*◌, ◌-◌, sym, ◌∙◌, arith}
+use Rattle.std.proofs.lemmas.Bool.Decides.{nat_tests}
+use Rattle.drawcard.proofs.Numerals.{from_digit, from_other, from_large, of_empty, of_start, from_place, from_end}
 use Rattle.drawcard.proofs.numeral.read_numeral.Goals as goal
 
-pub returns-then-text-eq0 : goal.returns-then-text-eq0
-returns-then-text-eq0 c = of_empty c.args.text.now (omega arith)
+pub returns-then-is_empty : goal.returns-then-is_empty
+returns-then-is_empty c = of_empty c.args.text.now (grind (arith, nat_tests))
 
-pub loop-i-init : goal.loop-i-init
-loop-i-init c = (omega arith, omega arith, of_start c.args.text.now (omega arith))
+pub loop-b-init : goal.loop-b-init
+loop-b-init c = of_start c.args.text.now (λ z. grind (arith, nat_tests))
 
-pub returns-then-b-lt48 : goal.returns-then-b-lt48
-returns-then-b-lt48 c =
+pub returns-then-not-is_ascii_digit : goal.returns-then-not-is_ascii_digit
+returns-then-not-is_ascii_digit c =
     let l = c.args.text.now in
-    let i = c.loop-i.i in
-    let next = from_place c.loop-i.n l i (omega arith) in
-    sym (next ∙ from_below c.loop-i.n (get_or l i 0) (drop (i + 1) l) (omega arith)) ∙ c.loop-i.invariant.2
+    let i = c.loop-b.b-index in
+    let h = c.if-not-is_ascii_digit.ensures.cases in
+    sym (from_place c.loop-b.n l i (omega arith) ∙ from_other c.loop-b.n (get_or l i 0) (drop (i + 1) l) h) ∙ c.loop-b.invariant
 
-pub returns-then-b-gt57 : goal.returns-then-b-gt57
-returns-then-b-gt57 c =
+pub returns-in_err-checked_mul : goal.returns-in_err-checked_mul
+returns-in_err-checked_mul c =
     let l = c.args.text.now in
-    let i = c.loop-i.i in
-    let next = from_place c.loop-i.n l i (omega arith) in
-    sym (next ∙ from_above c.loop-i.n (get_or l i 0) (drop (i + 1) l) (omega arith)) ∙ c.loop-i.invariant.2
+    let i = c.loop-b.b-index in
+    let d = c.if-not-is_ascii_digit.ensures.cases in
+    let big = c.in_err-checked_mul.ensures in
+    rw c.from_residual.ensures
+    (sym (from_place c.loop-b.n l i (omega arith) ∙ from_large c.loop-b.n (get_or l i 0) (drop (i + 1) l) d.0 d.1 (grind (arith, big)))
+    ∙ c.loop-b.invariant)
 
-pub returns-then-n-gt-LARGEST : goal.returns-then-n-gt-LARGEST
-returns-then-n-gt-LARGEST c =
+pub returns-in_err-n : goal.returns-in_err-n
+returns-in_err-n c =
     let l = c.args.text.now in
-    let i = c.loop-i.i in
-    let next = from_place c.loop-i.n l i (omega arith) in
-    sym (next ∙ from_large c.loop-i.n (get_or l i 0) (drop (i + 1) l) (omega arith) (omega arith) (omega arith)) ∙ c.loop-i.invariant.2
+    let i = c.loop-b.b-index in
+    let d = c.if-not-is_ascii_digit.ensures.cases in
+    let fits = c.in_ok-checked_mul.ensures in
+    let big = c.in_err-n.ensures in
+    rw c.from_residual-in_err-n.ensures
+    (sym (from_place c.loop-b.n l i (omega arith) ∙ from_large c.loop-b.n (get_or l i 0) (drop (i + 1) l) d.0 d.1 (grind (arith, big, fits)))
+    ∙ c.loop-b.invariant)
 
-pub loop-i-preserved : goal.loop-i-preserved
-loop-i-preserved c =
+pub loop-b-preserved : goal.loop-b-preserved
+loop-b-preserved c =
     let l = c.args.text.now in
-    let i = c.loop-i.i in
-    let next = from_place c.loop-i.n l i (omega arith) in (
-      omega arith,
-      omega arith,
-      sym (next ∙ from_digit c.loop-i.n (get_or l i 0) (drop (i + 1) l) (omega arith) (omega arith) (omega arith)) ∙ c.loop-i.invariant.2,
-    )
+    let i = c.loop-b.b-index in
+    let d = c.if-not-is_ascii_digit.ensures.cases in
+    let product = c.in_ok-checked_mul.ensures in
+    let total = c.in_ok-n.ensures in
+    let e : c.in_ok-n.n ≡ c.loop-b.n * 10 + (get_or l i 0 - 48) = grind (arith, product, total) in
+    rw e
+    (sym (from_place c.loop-b.n l i (omega arith)
+    ∙ from_digit c.loop-b.n (get_or l i 0) (drop (i + 1) l) d.0 d.1 (grind (arith, product, total)))
+    ∙ c.loop-b.invariant)
 
 pub returns : goal.returns
-returns c =
-    let l = c.args.text.now in
-    let e : c.loop-i.i ≡ length l = omega arith in
-    sym (from_end c.loop-i.n l c.loop-i.i e) ∙ c.loop-i.invariant.2
+returns c = sym (from_end c.loop-b.n c.args.text.now c.loop-b.b-index (omega arith)) ∙ c.loop-b.invariant
