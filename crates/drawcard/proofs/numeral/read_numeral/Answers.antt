@@ -35,7 +35,8 @@ returns-in_err-n c =
     let fits = c.in_ok-checked_mul.ensures in
     let big = c.in_err-n.ensures in
     rw c.from_residual-in_err-n.ensures
-    (sym (from_place c.loop-b.n l i (omega arith) ∙ from_large c.loop-b.n (get_or l i 0) (drop (i + 1) l) d.0 d.1 (grind (arith, big, fits)))
+    (sym (from_place c.loop-b.n l i (omega arith) ∙ from_large c.loop-b.n (get_or l i 0) (drop (i + 1) l) d.0 d.1
+    (grind (arith, big, fits)))
     ∙ c.loop-b.invariant)
 
 pub loop-b-preserved : goal.loop-b-preserved
