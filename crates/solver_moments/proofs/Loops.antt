@@ -255,7 +255,7 @@ module _ (w : ℕ) (L at : List ℕ) (d e g d₂ e₂ g₂ : List ℤ) where
       refused us vs F G j q false t r = fitting_even w L at d₂ e₂ g₂ vs G j q r
 
       go : (o p q : Bool) → odd ≡ o → leb s 128 ≡ p → leb t 128 ≡ q
-      → CombinedBoth w L at d e g d₂ e₂ g₂ u v (cond (not o && (p && q)) (Some tt) None)
+          → CombinedBoth w L at d e g d₂ e₂ g₂ u v (cond (not o && (p && q)) (Some tt) None)
       go true p q eo ep eq =
           λ us vs F G.
           let (j, l, r) = some_which either (length L) (sym end.odds ∙ eo) in
