@@ -6,8 +6,7 @@ use native.Mathlib.Numerals.{add-one}
 use native.Mathlib.Omega.{arith}
 use lib.ListN.{length, take, set, length-append}
 use lib.Seq.{paste, take-suc-set, take-paste, take-length}
-use Rattle.lines.specs.Put.{Put, PutLine}
-use Rattle.lines.specs.Text.{line_room}
+use Rattle.lines.specs.Put.{Put}
 
 -- no text
 pub put_none : (out : List ℕ) (at : ℕ) → Put out at [] out at
@@ -38,7 +37,3 @@ put_more {out} {out'} {out''} {t} {u} {at} {j} {r} a b =
 -- the same text
 pub put_same : {out out' t u : List ℕ} {at r : ℕ} → t ≡ u → Put out at t out' r → Put out at u out' r
 put_same {out} {out'} {t} {u} {at} {r} e p = rw (← e) p
-
--- a line at the front
-pub front_line : {out t out' : List ℕ} {r : ℕ} → PutLine out 0 t out' r → (take r out' ≡ t) × (r ≤ line_room)
-front_line p = (p.put.text, omega (arith, p.fits))

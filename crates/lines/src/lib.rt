@@ -89,16 +89,16 @@ fn put_natural(out: &mut [u8], at: usize, n: u64) -> usize
     requires { at + length (decimal n) ≤ length out.old }
     ensures { Put out.old at (decimal n) out.new result }
 {
-    if n < 100 {
-        return put_short(out, at, n);
+    match n {
+        0..=99 => put_short(out, at, n),
+        100..=9999 => {
+            let tens = n / 10;
+            let j = put_short(out, at, tens / 10);
+            let k = put_digit(out, j, tens % 10);
+            put_digit(out, k, n % 10)
+        }
+        _ => put_long(out, at, n),
     }
-    if n < 10000 {
-        let tens = n / 10;
-        let j = put_short(out, at, tens / 10);
-        let k = put_digit(out, j, tens % 10);
-        return put_digit(out, k, n % 10);
-    }
-    put_long(out, at, n)
 }
 
 // An integer: a minus sign before a negative one.
