@@ -9,9 +9,9 @@ use Rattle.card_draw.proofs.check.Goals.{then-s-eq0-via-then-s-eq0, then-s-eq0-v
 pub returns-then-s-eq0 : goal.returns-then-s-eq0
 returns-then-s-eq0 c =
     elim c.then-s-eq0.branch [
-      then-s-eq0-via-then-s-eq0 w ↦ ap checked (sym (by_count _ _ _ (λ k. omega arith)))
-    | then-s-eq0-via-else-s-eq0+then-s-gt-MOST_POLYNOMIALS w ↦ ap checked (sym (by_count _ _ _ (λ k. omega arith)))
-    | then-s-eq0-via-else-s-eq0+else-s-gt-MOST_POLYNOMIALS+then-n-gt-MOST_POINTS w ↦
+      | then-s-eq0-via-then-s-eq0 w ↦ ap checked (sym (by_count _ _ _ (λ k. omega arith)))
+      | then-s-eq0-via-else-s-eq0+then-s-gt-MOST_POLYNOMIALS w ↦ ap checked (sym (by_count _ _ _ (λ k. omega arith)))
+      | then-s-eq0-via-else-s-eq0+else-s-gt-MOST_POLYNOMIALS+then-n-gt-MOST_POINTS w ↦
           ap checked (sym (by_count _ _ _ (λ k. omega arith)))
     ]
 
