@@ -1,11 +1,11 @@
 -- What a turn of each loop keeps: the rest, stored from the present place on, gives what the function is to leave.
 use mathlib.Core.Path.{◌≡◌, refl, sym, ◌∙◌}
-use mathlib.Core.List.{List, map, flat_map}
+use mathlib.Core.List.{List, flat_map}
 use Prim.Native.Nat.{ℕ, zero, suc, ◌+◌, ◌*◌, ◌^◌, ◌≤◌, ◌<◌}
 use native.Mathlib.Numerals.{add-one}
 use native.Mathlib.Omega.{arith}
 use lib.IntN.{ℤ, pos}
-use lib.ListN.{length, get_or, take, drop, set}
+use lib.ListN.{length, get_or, take, drop}
 use lib.Seq.{sets, sets-eq, drop-cons, drop-drop}
 use borrow.Rule.Slice.PartMut.{put_mid}
 use Rattle.std.specs.Int.{to_be_bytes, w32}
@@ -34,12 +34,6 @@ pub part_stored : (d t s : List ℕ) (at k : ℕ) → s ≡ t → k ≡ length t
 part_stored d t s at k e f h =
     rw (e, f, drop-drop (length t) at d)
     (sym (append_assoc (take at d) t (drop (at + length t) d)) ∙ sym (sets-eq t d at h))
-
--- ---- the points
-
-pub points_turn : (f : ℤ → ℕ) (l : List ℤ) (out : List ℕ) (at k : ℕ) → k < length l
-    → sets (set out (at + k) (f (get_or l k (pos 0)))) (at + (k + 1)) (map f (drop (k + 1) l)) ≡ sets out (at + k) (map f (drop k l))
-points_turn f l out at k h = let e : at + (k + 1) ≡ suc (at + k) = omega arith in rw (e, add-one k, drop-cons l k (pos 0)) refl
 
 -- ---- a body
 

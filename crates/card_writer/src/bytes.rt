@@ -105,10 +105,7 @@ fn put_header(s: usize, n: usize, out: &mut [u8])
     requires { (s ≤ most_polynomials) × (n ≤ most_points) × (4 ≤ length out.old) }
     ensures { out.new ≡ sets out.old 0 (1 ∷ s ∷ n ∷ 0 ∷ []) }
 {
-    out[0] = 1;
-    out[1] = s as u8;
-    out[2] = n as u8;
-    out[3] = 0;
+    out[..4].copy_from_slice(&[1, s as u8, n as u8, 0]);
 }
 
 // Puts the whole card at the front of out.
