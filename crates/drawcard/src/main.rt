@@ -36,7 +36,12 @@ fn arguments(rt: &impl Env) -> Option<(u32, u32, u32, u32)> {
     if is_given(rt, ARGUMENTS) {
         return None;
     }
-    Some((argument(rt, 1)?, argument(rt, 2)?, argument(rt, 3)?, argument(rt, 4)?))
+    Some((
+        argument(rt, 1)?,
+        argument(rt, 2)?,
+        argument(rt, 3)?,
+        argument(rt, 4)?,
+    ))
 }
 
 fn say_usage(rt: &impl Eprint) -> io::Result<()> {
