@@ -1,8 +1,8 @@
 -- THEOREM of the code: a call of `draw` gives what `DrawGives` says; in particular a drawn card is sound, with that s, that n and degree d
 -- throughout. The call is known by its contract alone (`Learnt`), so that a weaker promise breaks the theorem.
-use mathlib.Core.Path.{◌≡◌, refl, sym, ap, ◌∙◌}
+use mathlib.Core.Path.{◌≡◌, sym, ap, ◌∙◌}
 use mathlib.Core.List.{List}
-use Prim.Native.Nat.{ℕ, ◌+◌, ◌*◌, ◌<◌, ◌≤◌}
+use Prim.Native.Nat.{ℕ, ◌+◌, ◌*◌, ◌<◌}
 use native.Mathlib.Omega.{arith}
 use contract.Lifetimes.{Lfts}
 use denote.Ref.{MutBor}
@@ -20,7 +20,7 @@ use Rattle.std.proofs.Common.{Result}
 use Rattle.refusals.specs.declared.Refusal.{Refusal}
 use Rattle.card_writer.proofs.Calls.{placed-refused, placed-short, placed-whole}
 use Rattle.card_draw.specs.Drawn.{drawn_coefficients, drawn_points, drawn_card, draw_cause, drawing}
-use Rattle.card_draw.specs.Claim.{Counted, card_size, IsDrawn, DrawGives}
+use Rattle.card_draw.specs.Claim.{card_size, IsDrawn, DrawGives}
 use Rattle.card_draw.proofs.Drawing.{by_count, by_degree, by_none, length-coefficients, length-points, wanted-replicate, drawn-accepted}
 use Rattle.card_draw.proofs.draw.Reads as draw
 

@@ -2,7 +2,7 @@
 use mathlib.Core.Path.{◌≡◌, refl, ap, ◌∙◌}
 use mathlib.Core.List.{List}
 use Prim.Native.Nat.{ℕ, suc, ◌+◌, ◌*◌, ◌-◌, ◌≤◌, ◌<◌}
-use native.Mathlib.Nat.{suc-mul}
+use native.Mathlib.Nat.{suc-mul, mul-le-mul_left}
 use native.Mathlib.Omega.{arith}
 use lib.IntN.{ℤ, pos}
 use lib.ListN.{length, get_or, set}
@@ -30,46 +30,46 @@ polynomial_stored out₀ out at d σ z h e f =
 -- ---- the loop that stores the polynomials
 
 module _ (s d σ : ℕ) (out₀ : List ℤ) where
-  -- j polynomials are stored, up to place `at`: what is left to draw, stored from there on, gives the end
-  pub record Storing (out : List ℤ) (next at j : ℕ) : Type 0 where
-    pub most : j ≤ s
+  -- j polynomials are stored: what is left to draw, stored from there on, gives the end
+  pub record Storing (out : List ℤ) (next j : ℕ) : Type 0 where
     pub long : length out ≡ length out₀
-    pub room : at + (s - j) * (d + 1) ≡ s * (d + 1)
-    pub left : sets out at (drawn_coefficients (s - j) d next) ≡ sets out₀ 0 (drawn_coefficients s d σ)
+    pub left : sets out (j * (d + 1)) (drawn_coefficients (s - j) d next) ≡ sets out₀ 0 (drawn_coefficients s d σ)
     pub state : after ((s - j) * (d + 1)) next ≡ after (s * (d + 1)) σ
 
-  pub storing_first : Storing out₀ σ 0 0
+  pub storing_first : Storing out₀ σ 0
   storing_first =
+      let e : 0 * (d + 1) ≡ 0 = omega arith in
       let f : s - 0 ≡ s = omega arith in
-      record { most = omega arith; long = refl; room = rw f (omega arith); left = rw f; state = rw f }
+      record { long = refl; left = rw (e, f); state = rw f }
 
-  module _ (out : List ℤ) (next at j : ℕ) (w : Storing out next at j) (h : j < s) where
+  module _ (out : List ℤ) (next j : ℕ) (h : j < s) where
     one_more : s - j ≡ suc (s - (j + 1))
     one_more = omega arith
 
-    pub storing_room : at + (d + 1) + (s - (j + 1)) * (d + 1) ≡ s * (d + 1)
-    storing_room = omega (arith, rw one_more at w.room, suc-mul (s - (j + 1)) (d + 1))
+    -- there is room for polynomial j
+    pub storing_room : j * (d + 1) + (d + 1) ≤ s * (d + 1)
+    storing_room = let k : j + 1 ≤ s = omega arith in omega (arith, mul-le-mul_left (d + 1) k)
 
-    pub storing_next : (out' : List ℤ) (next' : ℕ) → next' ≡ after (d + 1) next → out' ≡ sets out at (drawn_polynomial d next)
-        → Storing out' next' (at + (d + 1)) (j + 1)
+    pub storing_next : Storing out next j → (out' : List ℤ) (next' : ℕ) → next' ≡ after (d + 1) next
+        → out' ≡ sets out (j * (d + 1)) (drawn_polynomial d next) → Storing out' next' (j + 1)
     unfolding drawn_coefficients
-    storing_next out' next' p q =
+    storing_next w out' next' p q =
         let t = s - (j + 1) in
+        let at = j * (d + 1) in
         let l = length_polynomial d next in
         let e : suc t * (d + 1) ≡ (d + 1) + t * (d + 1) = omega (arith, suc-mul t (d + 1)) in
+        let f : (j + 1) * (d + 1) ≡ at + (d + 1) = omega arith in
         record {
-          most = omega arith;
           long = ap length q ∙ length-sets out at (drawn_polynomial d next) ∙ w.long;
-          room = storing_room;
-          left = rw (q, p, ← l) (sets_append (drawn_polynomial d next) _ out at ∙ rw (one_more, ← l) at w.left);
+          left = rw (f, q, p, ← l) (sets_append (drawn_polynomial d next) _ out _ ∙ rw (one_more, ← l) at w.left);
           state = rw (p, ← after-add (d + 1) (t * (d + 1)) next, ← e) (rw one_more at w.state);
         }
 
-  pub storing_last : (out : List ℤ) (next at j : ℕ) → Storing out next at j → s ≤ j
+  pub storing_last : (out : List ℤ) (next : ℕ) → Storing out next s
       → (next ≡ after (s * (d + 1)) σ) × (out ≡ sets out₀ 0 (drawn_coefficients s d σ))
   unfolding drawn_coefficients after
-  storing_last out next at j w h =
-      let e : s - j ≡ 0 = omega (arith, w.most) in
+  storing_last out next w =
+      let e : s - s ≡ 0 = omega arith in
       let f : 0 * (d + 1) ≡ 0 = omega arith in
       (rw (e, f) at w.state, rw e at w.left)
 

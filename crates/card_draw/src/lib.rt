@@ -60,12 +60,8 @@ fn draw_polynomials(state: u32, s: usize, d: usize, out: &mut [i64]) -> u32
     ensures { (result ≡ after (s * (d + 1)) state) × (out.new ≡ sets out.old 0 (drawn_coefficients s d state)) }
 {
     let mut next = state;
-    let mut at = 0;
-    let mut j = 0;
-    while j < s {
-        next = draw_polynomial(next, d, out, at);
-        at += d + 1;
-        j += 1;
+    for j in 0..s {
+        next = draw_polynomial(next, d, out, j * (d + 1));
     }
     next
 }

@@ -1,32 +1,39 @@
 -- What a turn of each loop keeps: the rest, stored from the present place on, gives what the function is to leave.
-use mathlib.Core.Path.{◌≡◌, refl}
-use mathlib.Core.List.{List, map, flat_map}
-use Prim.Native.Nat.{ℕ, zero, suc, ◌+◌, ◌*◌, ◌-◌, ◌/◌, ◌%◌, ◌^◌, ◌<◌}
+use mathlib.Core.Path.{◌≡◌, refl, sym, ◌∙◌}
+use mathlib.Core.List.{List, flat_map}
+use Prim.Native.Nat.{ℕ, zero, suc, ◌+◌, ◌*◌, ◌^◌, ◌≤◌, ◌<◌}
 use native.Mathlib.Numerals.{add-one}
 use native.Mathlib.Omega.{arith}
 use lib.IntN.{ℤ, pos}
-use lib.ListN.{length, get_or, drop, set}
-use lib.Seq.{sets, drop-cons}
-use Rattle.sequences.proofs.Stores.{sets_append, sets_last}
+use lib.ListN.{length, get_or, take, drop}
+use lib.Seq.{sets, sets-eq, drop-cons, drop-drop}
+use borrow.Rule.Slice.PartMut.{put_mid}
+use Rattle.std.specs.Int.{to_be_bytes, w32}
+use Rattle.std.proofs.Common.{append_assoc}
+use Rattle.std.proofs.Math.Nat.{div-div-eq-div-mul}
+use Rattle.sequences.proofs.Stores.{sets_append}
 use Rattle.card_bytes.specs.Bytes.{bytes, complement, body_size, offsets}
 use Rattle.card_bytes.proofs.Lengths.{length-bytes}
 
--- ---- a number, from its last byte down
+-- ---- a number
 
-pub number_turn : (out : List ℕ) (at i v : ℕ) → 0 < i
-    → sets (set out (at + (i - 1)) (v % 256)) at (bytes (i - 1) (v / 256)) ≡ sets out at (bytes i v)
+-- the last k of its four bytes, high byte first, are the number in k bytes
+pub low_bytes : (k v n : ℕ) → n + k ≡ 4 → drop n (to_be_bytes w32 v) ≡ bytes k v
 unfolding bytes
-number_turn out at zero v h = absurd (omega arith)
-number_turn out at (suc i) v h =
-    let e : at + (suc i - 1) ≡ at + length (bytes i (v / 256)) = omega (arith, length-bytes i (v / 256)) in
-    let f : suc i - 1 ≡ i = omega arith in
-    rw (e, f) (sets_last (bytes i (v / 256)) out at (v % 256))
+low_bytes zero v n h = let e : n ≡ 4 = omega arith in rw e refl
+low_bytes (suc zero) v n h = let e : n ≡ 3 = omega arith in rw e refl
+low_bytes (suc (suc zero)) v n h = let e : n ≡ 2 = omega arith in rw e refl
+low_bytes (suc (suc (suc zero))) v n h =
+    let e : n ≡ 1 = omega arith in rw (e, div-div-eq-div-mul v 256 256) refl
+low_bytes (suc (suc (suc (suc zero)))) v n h =
+    let e : n ≡ 0 = omega arith in rw (e, div-div-eq-div-mul v 256 256, div-div-eq-div-mul v 65536 256) refl
+low_bytes (suc (suc (suc (suc (suc k))))) v n h = absurd (omega arith)
 
--- ---- the points
-
-pub points_turn : (f : ℤ → ℕ) (l : List ℤ) (out : List ℕ) (at k : ℕ) → k < length l
-    → sets (set out (at + k) (f (get_or l k (pos 0)))) (at + (k + 1)) (map f (drop (k + 1) l)) ≡ sets out (at + k) (map f (drop k l))
-points_turn f l out at k h = let e : at + (k + 1) ≡ suc (at + k) = omega arith in rw (e, add-one k, drop-cons l k (pos 0)) refl
+-- a part of a list written over is a run of stores
+pub part_stored : (d t s : List ℕ) (at k : ℕ) → s ≡ t → k ≡ length t → at + length t ≤ length d → put_mid at k d s ≡ sets d at t
+part_stored d t s at k e f h =
+    rw (e, f, drop-drop (length t) at d)
+    (sym (append_assoc (take at d) t (drop (at + length t) d)) ∙ sym (sets-eq t d at h))
 
 -- ---- a body
 

@@ -28,18 +28,12 @@ pub fn card_length(s: usize, m: usize, n: usize) -> usize
     bodies_from(s) + (s + 4 * m) + n
 }
 
-// Puts the number v in k bytes, high byte first, from byte `at` on.
+// Puts the low k bytes of the number v, high byte first, from byte `at` on.
 fn put_number(v: u32, k: usize, out: &mut [u8], at: usize)
-    requires { at + k ≤ length out.old }
+    requires { (k ≤ 4) × (at + k ≤ length out.old) }
     ensures { out.new ≡ sets out.old at (bytes k v) }
 {
-    let mut left = v;
-    let mut i = k;
-    while 0 < i {
-        i -= 1;
-        out[at + i] = (left % 256) as u8;
-        left = left / 256;
-    }
+    out[at..at + k].copy_from_slice(&v.to_be_bytes()[4 - k..]);
 }
 
 // A number in two's complement, where the numbers from half on stand for those below 0.
@@ -60,13 +54,11 @@ fn put_offsets(degrees: &[usize], out: &mut [u8])
     ensures { out.new ≡ sets out.old 4 (offsets (bodies_from (length degrees.now)) degrees.now) }
 {
     let mut begins = bodies_from(degrees.len());
-    let mut j = 0;
-    while j < degrees.len() {
+    for (j, d) in degrees.iter().enumerate() {
         put_number(begins as u32, 2, out, 4 + 2 * j);
-        begins += 1 + 4 * (degrees[j] + 1);
-        j += 1;
+        begins += 1 + 4 * (d + 1);
     }
-    put_number(begins as u32, 2, out, 4 + 2 * j);
+    put_number(begins as u32, 2, out, 4 + 2 * degrees.len());
 }
 
 // Puts the body of a polynomial of degree d from byte `at` on: its degree, then its coefficients.
@@ -76,15 +68,8 @@ fn put_body(d: usize, coefficients: &[i64], out: &mut [u8], at: usize)
     ensures { out.new ≡ sets out.old at (body d coefficients.now) }
 {
     out[at] = d as u8;
-    let mut i = 0;
-    while i < coefficients.len() {
-        put_number(
-            in_complement(HALF_WORD, coefficients[i]),
-            4,
-            out,
-            at + 1 + 4 * i,
-        );
-        i += 1;
+    for (i, z) in coefficients.iter().enumerate() {
+        put_number(in_complement(HALF_WORD, *z), 4, out, at + 1 + 4 * i);
     }
 }
 
@@ -96,15 +81,12 @@ fn put_bodies(degrees: &[usize], coefficients: &[i64], out: &mut [u8], at: usize
     ensures { out.new ≡ sets out.old at (bodies degrees.now coefficients.now) }
 {
     let mut place = at;
-    let mut from = 0;
-    let mut j = 0;
-    while j < degrees.len() {
-        let d = degrees[j];
-        let to = from + d + 1;
-        put_body(d, &coefficients[from..to], out, place);
+    let mut left = coefficients;
+    for d in degrees {
+        let (own, others) = left.split_at(d + 1);
+        put_body(*d, own, out, place);
         place += 1 + 4 * (d + 1);
-        from = to;
-        j += 1;
+        left = others;
     }
 }
 
@@ -113,10 +95,8 @@ fn put_points(points: &[i64], out: &mut [u8], at: usize)
     requires { (wrong_points points.now ≡ false) × (at + length points.now ≤ length out.old) }
     ensures { out.new ≡ sets out.old at (map (complement 128) points.now) }
 {
-    let mut k = 0;
-    while k < points.len() {
-        out[at + k] = in_complement(HALF_BYTE, points[k]) as u8;
-        k += 1;
+    for (k, z) in points.iter().enumerate() {
+        out[at + k] = in_complement(HALF_BYTE, *z) as u8;
     }
 }
 
@@ -125,10 +105,7 @@ fn put_header(s: usize, n: usize, out: &mut [u8])
     requires { (s ≤ most_polynomials) × (n ≤ most_points) × (4 ≤ length out.old) }
     ensures { out.new ≡ sets out.old 0 (1 ∷ s ∷ n ∷ 0 ∷ []) }
 {
-    out[0] = 1;
-    out[1] = s as u8;
-    out[2] = n as u8;
-    out[3] = 0;
+    out[..4].copy_from_slice(&[1, s as u8, n as u8, 0]);
 }
 
 // Puts the whole card at the front of out.

@@ -1,10 +1,6 @@
 -- `card_draw::draw_polynomials` meets its contract: what is left to draw, stored from the present place on, gives the end (`Storing`).
-use Prim.Native.Nat.{◌-◌}
 use Rattle.card_draw.proofs.Storing.{Storing}
 use Rattle.card_draw.proofs.draw_polynomials.Given as goal
 
 abbrev pub invariant-loop-j : goal.invariant-loop-j
-invariant-loop-j l = Storing l.s l.d l.state l.initial.out l.out l.next l.at l.j
-
-abbrev pub decreases-loop-j : goal.decreases-loop-j
-decreases-loop-j l = l.s - l.j
+invariant-loop-j l = Storing l.s l.d l.state l.initial.out l.out l.next l.j

@@ -1,5 +1,5 @@
 -- `generator::draw_numbers` meets its contract: what is left to draw, stored from the present place on, gives the end (`Storing`).
-use Rattle.std.proofs.Common.{ℕ, ◌-◌, ◌^◌, ◌<◌, pos, ◌-ℤ◌, ap, ◌∙◌, arith}
+use Rattle.std.proofs.Common.{ℕ, ◌^◌, ◌<◌, pos, ◌-ℤ◌, ap, ◌∙◌, arith}
 use Rattle.integers.proofs.I64.{less_is}
 use Rattle.generator.proofs.Draws.{storing_next, storing_last}
 use Rattle.generator.proofs.draw_numbers.Goals as goal

@@ -1,60 +1,54 @@
 -- `card_writer::bytes::put_bodies` meets its contract: the bodies left, put from the present byte on, give the run.
 use mathlib.Core.Path.{◌≡◌, ◌∙◌, refl}
-use Prim.Native.Nat.{◌+◌, ◌-◌}
+use Prim.Native.Nat.{◌+◌}
 use native.Mathlib.Omega.{arith}
-use lib.ListN.{length, get_or, take, drop}
+use lib.ListN.{length, get_or, take}
 use lib.Seq.{sets, drop-length}
 use Rattle.card_bytes.specs.Bytes.{body, bodies}
 use Rattle.card_writer.proofs.Bodies.{Next, next, bodies_turn}
 use Rattle.card_writer.proofs.bytes.put_bodies.Goals as goal
-use Rattle.card_writer.proofs.bytes.put_bodies.Goals.{In-loop-j}
+use Rattle.card_writer.proofs.bytes.put_bodies.Goals.{In-loop-d}
 
 -- the polynomial whose body a turn puts
-known : (c : In-loop-j)
-    → Next c.args.degrees.now c.args.coefficients.now
-    c.loop-j.place c.loop-j.from c.loop-j.j (length c.args.out.now)
-    (get_or c.args.degrees.now c.loop-j.j 0)
+known : (c : In-loop-d)
+    → Next c.args.degrees.now c.loop-d.left.now c.loop-d.place c.loop-d.d-index (length c.args.out.now)
+    (get_or c.args.degrees.now c.loop-d.d-index 0)
 known c =
-    next c.args.degrees.now c.args.coefficients.now c.loop-j.place c.loop-j.from c.loop-j.j (length c.args.out.now)
+    next c.args.degrees.now c.loop-d.left.now c.loop-d.place c.loop-d.d-index (length c.args.out.now)
     c.requires.degrees_len_bound.1
-    c.loop-j-test.true c.loop-j.invariant.0
+    (omega arith) c.loop-d.invariant.0
 
-pub overflow_add-to : goal.overflow_add-to
-overflow_add-to c = omega (arith, known (goal.at.overflow_add-to c).In-loop-j)
+pub overflow_add-d : goal.overflow_add-d
+overflow_add-d c = omega (arith, known (goal.at.overflow_add-d c).In-loop-d)
 
-pub overflow_add-to-in-loop-j : goal.overflow_add-to-in-loop-j
-overflow_add-to-in-loop-j c = omega (arith, known (goal.at.overflow_add-to-in-loop-j c).In-loop-j)
-
-pub slice_bounds-put_body-end : goal.slice_bounds-put_body-end
-slice_bounds-put_body-end c = omega (arith, known (goal.at.slice_bounds-put_body-end c).In-loop-j)
+pub split_at-requires : goal.split_at-requires
+split_at-requires c = omega (arith, known (goal.at.split_at-requires c).In-loop-d)
 
 pub put_body-requires : goal.put_body-requires
 put_body-requires c =
-    let k = known (goal.at.put_body-requires c).In-loop-j in
-    let d = get_or c.args.degrees.now c.loop-j.j 0 in
-    let e : c.loop-j.from + d + 1 - c.loop-j.from ≡ d + 1 = omega arith in
+    let k = known (goal.at.put_body-requires c).In-loop-d in
     record {
-      d_le_most_degree = rw e (k.low, k.long, k.small);
+      d_le_most_degree = rw c.split_at.ensures.front (k.low, k.long, k.small);
       d_in_bounds = omega arith;
     }
 
-pub loop-j-preserved : goal.loop-j-preserved
-loop-j-preserved c =
-    let k = known (goal.at.loop-j-preserved c).In-loop-j in
+pub loop-d-preserved : goal.loop-d-preserved
+loop-d-preserved c =
+    let k = known (goal.at.loop-d-preserved c).In-loop-d in
     let ds = c.args.degrees.now in
-    let cs = c.args.coefficients.now in
-    let d = get_or ds c.loop-j.j 0 in
-    let e : c.loop-j.from + d + 1 - c.loop-j.from ≡ d + 1 = omega arith in
-    let f : c.put_body.new.out ≡ sets c.loop-j.out c.loop-j.place (body d (take (d + 1) (drop c.loop-j.from cs))) = c.put_body.ensures
-    ∙ rw e refl in (
-      k.left,
-      c.put_body.auto.out ∙ c.loop-j.invariant.1,
-      rw f (bodies_turn ds c.loop-j.out cs c.loop-j.place c.loop-j.from c.loop-j.j c.loop-j-test.true k.long ∙ c.loop-j.invariant.2),
+    let cs = c.loop-d.left.now in
+    let d = get_or ds c.loop-d.d-index 0 in
+    let f : c.put_body.new.out ≡ sets c.loop-d.out c.loop-d.place (body d (take (d + 1) cs)) = c.put_body.ensures
+    ∙ rw c.split_at.ensures.front refl in (
+      rw c.split_at.ensures.back k.left,
+      c.put_body.auto.out ∙ c.loop-d.invariant.1,
+      rw (f, c.split_at.ensures.back)
+          (bodies_turn ds c.loop-d.out cs c.loop-d.place c.loop-d.d-index (omega arith) k.long ∙ c.loop-d.invariant.2),
     )
 
 pub returns : goal.returns
 unfolding bodies
 returns c =
     let ds = c.args.degrees.now in
-    let e : c.loop-j.j ≡ length ds = omega arith in
-    rw (e, drop-length ds) at c.loop-j.invariant.2
+    let e : c.loop-d.d-index ≡ length ds = omega arith in
+    rw (e, drop-length ds) at c.loop-d.invariant.2

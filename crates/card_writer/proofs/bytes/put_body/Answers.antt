@@ -1,7 +1,7 @@
 -- `card_writer::bytes::put_body` meets its contract: the coefficients left, put from the present byte on, give the run.
 use mathlib.Core.Path.{◌≡◌, ◌∙◌, refl}
 use mathlib.Core.List.{flat_map}
-use Prim.Native.Nat.{◌^◌, ◌+◌, ◌*◌, ◌-◌}
+use Prim.Native.Nat.{◌^◌, ◌+◌, ◌*◌}
 use native.Mathlib.Numerals.{add-one}
 use native.Mathlib.Omega.{arith}
 use lib.IntN.{pos}
@@ -27,9 +27,8 @@ loop-i-preserved c =
     let e : c.put_number.new.out ≡ sets c.loop-i.out (c.args.at + 1 + 4 * c.loop-i.i)
     (bytes 4 (complement (2 ^ 31) (get_or cs c.loop-i.i (pos 0)))) =
     c.put_number.ensures ∙ rw (c.in_complement.ensures.0, i.same) refl in (
-      omega arith,
-      c.put_number.auto.out ∙ c.loop-i.invariant.1,
-      rw e (words_turn cs c.loop-i.out (c.args.at + 1) c.loop-i.i t ∙ c.loop-i.invariant.2),
+      c.put_number.auto.out ∙ c.loop-i.invariant.0,
+      rw e (words_turn cs c.loop-i.out (c.args.at + 1) c.loop-i.i t ∙ c.loop-i.invariant.1),
     )
 
 pub returns : goal.returns
@@ -37,4 +36,4 @@ unfolding body flat_map
 returns c =
     let a = c.args in
     let e : c.loop-i.i ≡ length a.coefficients.now = omega arith in
-    rw (e, drop-length a.coefficients.now) at c.loop-i.invariant.2 ∙ rw (add-one a.at) refl
+    rw (e, drop-length a.coefficients.now) at c.loop-i.invariant.1 ∙ rw (add-one a.at) refl

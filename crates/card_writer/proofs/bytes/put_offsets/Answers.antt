@@ -33,10 +33,9 @@ overflow_add-begins-in-loop-j-2 c = omega (arith, low c.args.degrees.now c.loop-
 pub loop-j-preserved : goal.loop-j-preserved
 loop-j-preserved c =
     let t = c.loop-j-test.true in (
-      omega arith,
-      c.put_number.auto.out ∙ c.loop-j.invariant.1,
+      c.put_number.auto.out ∙ c.loop-j.invariant.0,
       omega (arith, low c.args.degrees.now c.loop-j.j c.requires.degrees_len_bound.1 c.loop-j-test.true),
-      rw c.put_number.ensures (offsets_turn c.args.degrees.now c.loop-j.out c.loop-j.begins c.loop-j.j t ∙ c.loop-j.invariant.3),
+      rw c.put_number.ensures (offsets_turn c.args.degrees.now c.loop-j.out c.loop-j.begins c.loop-j.j t ∙ c.loop-j.invariant.2),
     )
 
 pub returns : goal.returns
@@ -45,4 +44,4 @@ returns c =
     let ds = c.args.degrees.now in
     let e : c.loop-j.j ≡ length ds = omega arith in
     let f : drop c.loop-j.j ds ≡ [] = rw e (drop-length ds) in
-    c.put_number-2.ensures ∙ rw f at c.loop-j.invariant.3 ∙ rw c.bodies_from-begins.ensures refl
+    c.put_number-2.ensures ∙ rw (f, e) at c.loop-j.invariant.2 ∙ rw c.bodies_from-begins.ensures refl

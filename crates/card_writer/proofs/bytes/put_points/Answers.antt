@@ -1,5 +1,4 @@
 -- `card_writer::bytes::put_points` meets its contract: the points left, put from the present byte on, give the run.
-use Prim.Native.Nat.{◌-◌}
 use native.Mathlib.Omega.{arith}
 use lib.Dec.{lit<}
 use Rattle.card_writer.proofs.Checked.{inside, points-inside}

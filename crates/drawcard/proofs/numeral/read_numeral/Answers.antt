@@ -1,5 +1,5 @@
 -- `numeral::read_numeral` meets its contract: the number so far, with the bytes that are left, is the number that the text is.
-use Rattle.std.proofs.Common.{◌≡◌, ℕ, ◌+◌, ◌<◌, length, drop, get_or, ◌*◌, ◌-◌, sym, ◌∙◌, arith}
+use Rattle.std.proofs.Common.{◌≡◌, ◌+◌, drop, get_or, ◌*◌, ◌-◌, sym, ◌∙◌, arith}
 use Rattle.std.proofs.lemmas.Bool.Decides.{nat_tests}
 use Rattle.drawcard.proofs.Numerals.{from_digit, from_other, from_large, of_empty, of_start, from_place, from_end}
 use Rattle.drawcard.proofs.numeral.read_numeral.Goals as goal
