@@ -9,8 +9,16 @@ loop-j-init c = storing_first _ _ _ _
 pub draw_polynomial-next-requires : goal.draw_polynomial-next-requires
 draw_polynomial-next-requires c =
     let a = c.args in
-    let j = c.loop-j.j in
-    (omega arith, omega (arith, c.requires, c.loop-j.invariant.long, storing_room a.s a.d a.state a.out.now c.loop-j.out c.loop-j.next j (omega arith)))
+    let j = c.loop-j.j in (
+      omega arith,
+      omega (
+        arith,
+        c.requires,
+        c.loop-j.invariant.long,
+        storing_room a.s a.d a.state a.out.now c.loop-j.out c.loop-j.next j
+            (omega arith),
+      ),
+    )
 
 pub loop-j-preserved : goal.loop-j-preserved
 loop-j-preserved c =
