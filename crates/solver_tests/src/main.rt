@@ -13,14 +13,8 @@ use test_input::{byte, read_pairs};
 // Room for a list: more than any length that a byte can say.
 const ROOM: usize = 256;
 
-// How many kinds of systems there are (tools/solver_systems.py lists them), and the places after them where all systems and those that differ are counted.
+// How many kinds of systems there are (tools/solver_systems.py lists them).
 const KINDS: usize = 15;
-
-const ALL: usize = 15;
-
-const UNLIKE: usize = 16;
-
-const TALLIES: usize = 17;
 
 // What the output slice holds before a call, at each place as much more as the place says.
 const HELD: usize = 1000;
@@ -144,30 +138,32 @@ fn agrees(
     is_left(file, at + m, written(answer, patterns.len()), &out)
 }
 
-// Counts one more. A count starts again from 0 after 4,294,967,295, which takes more files than there are.
-fn count(tally: &mut [u32; TALLIES], k: usize)
-    requires { k < 17 }
-{
-    tally[k] = tally[k].wrapping_add(1);
+// How many systems there are of each kind, in all, and that differ.
+#[derive(Drop)]
+struct Tally {
+    kinds: [u32; KINDS],
+    all: u32,
+    unlike: u32,
 }
 
-// Counts a system of a kind, and whether it differs.
-fn note(tally: &mut [u32; TALLIES], kind: usize, is_right: bool) {
-    count(tally, ALL);
-    count(tally, kind % KINDS);
-    if !is_right {
-        count(tally, UNLIKE);
+// Counts one more. A count starts again from 0 after 4,294,967,295, which takes more files than there are.
+fn count(n: &mut u32) {
+    *n = n.wrapping_add(1);
+}
+
+impl Tally {
+    // Counts a system of a kind, and whether it differs.
+    fn note(&mut self, kind: usize, is_right: bool) {
+        count(&mut self.all);
+        count(&mut self.kinds[kind % KINDS]);
+        if !is_right {
+            count(&mut self.unlike);
+        }
     }
 }
 
 // Compares the system at a place. Returns the place after it.
-fn compare_system(
-    file: &[u8],
-    at: usize,
-    s: usize,
-    patterns: &[u16],
-    tally: &mut [u32; TALLIES],
-) -> usize
+fn compare_system(file: &[u8], at: usize, s: usize, patterns: &[u16], tally: &mut Tally) -> usize
     requires { (at < 700000) × (length patterns.now < 256) }
     ensures { (at ≤ result) × (result ≤ at + 514) }
 {
@@ -175,8 +171,7 @@ fn compare_system(
     let o = byte(file, at + 2);
     let answer = byte(file, at + 3);
     let from = at + 4;
-    note(
-        tally,
+    tally.note(
         byte(file, at),
         agrees(file, from, m, o, answer, s, patterns),
     );
@@ -190,7 +185,7 @@ fn compare_systems(
     q: usize,
     s: usize,
     patterns: &[u16],
-    tally: &mut [u32; TALLIES],
+    tally: &mut Tally,
 ) -> usize
     requires { (at < 500000) × (q < 256) × (length patterns.now < 256) }
     ensures { (at ≤ result) × (result ≤ at + 514 * q) }
@@ -203,7 +198,7 @@ fn compare_systems(
 }
 
 // Compares the systems of the list at a place. Returns the place after them.
-fn compare_list(file: &[u8], at: usize, tally: &mut [u32; TALLIES]) -> usize
+fn compare_list(file: &[u8], at: usize, tally: &mut Tally) -> usize
     requires { at < 65536 }
     ensures { at < result }
 {
@@ -217,7 +212,7 @@ fn compare_list(file: &[u8], at: usize, tally: &mut [u32; TALLIES]) -> usize
 }
 
 // Compares the systems of every list of a file, and says so where the file does not end with the last of them.
-fn compare_all(rt: &impl Print, file: &[u8], tally: &mut [u32; TALLIES]) -> io::Result<()>
+fn compare_all(rt: &impl Print, file: &[u8], tally: &mut Tally) -> io::Result<()>
     requires { length file.now ≤ 65536 }
 {
     let mut at = 0;
@@ -234,7 +229,7 @@ fn compare_all(rt: &impl Print, file: &[u8], tally: &mut [u32; TALLIES]) -> io::
 fn compare_file(
     rt: &(impl Env + Files + Print + Eprint),
     k: usize,
-    tally: &mut [u32; TALLIES],
+    tally: &mut Tally,
 ) -> io::Result<()> {
     let mut file = [0u8; test_input::ROOM];
     let n = test_input::read_argument(rt, k, &mut file);
@@ -246,18 +241,22 @@ fn print_kind(rt: &impl Print, k: usize, n: u32) -> io::Result<()> {
     println!(rt; "kind {k}: {n}")
 }
 
-fn print_kinds(rt: &impl Print, tally: &[u32; TALLIES]) -> io::Result<()> {
+fn print_kinds(rt: &impl Print, kinds: &[u32; KINDS]) -> io::Result<()> {
     for k in 0..KINDS {
-        print_kind(rt, k, tally[k])?;
+        print_kind(rt, k, kinds[k])?;
     }
     Ok(())
 }
 
 fn main(rt: HostRuntime) -> io::Result<()> {
-    let mut tally = [0u32; TALLIES];
+    let mut tally = Tally {
+        kinds: [0; KINDS],
+        all: 0,
+        unlike: 0,
+    };
     compare_file(&rt, 1, &mut tally)?;
     compare_file(&rt, 2, &mut tally)?;
-    let (all, unlike) = (tally[ALL], tally[UNLIKE]);
+    let Tally { kinds, all, unlike } = tally;
     println!(rt; "{all} systems, {unlike} differ")?;
-    print_kinds(&rt, &tally)
+    print_kinds(&rt, &kinds)
 }

@@ -36,7 +36,7 @@ const NO_NUMBER: i64 = 0;
 
 // What a card says of itself, or the number that refuses it.
 #[repr(C)]
-#[derive(Clone, Copy)]
+#[derive(Clone, Copy, Debug, PartialEq, Eq)]
 pub struct Checked {
     pub polynomials: usize,
     pub points: usize,
@@ -45,7 +45,7 @@ pub struct Checked {
 
 // A value, or the number that refuses it.
 #[repr(C)]
-#[derive(Clone, Copy)]
+#[derive(Clone, Copy, Debug, PartialEq, Eq)]
 pub struct Number {
     pub number: i64,
     pub refusal: u16,
@@ -53,7 +53,7 @@ pub struct Number {
 
 // The panel number of a query and its three counts, or the number that refuses it.
 #[repr(C)]
-#[derive(Clone, Copy)]
+#[derive(Clone, Copy, Debug, PartialEq, Eq)]
 pub struct FlatCounts {
     pub number: i64,
     pub positive: u16,
@@ -64,7 +64,7 @@ pub struct FlatCounts {
 
 // How a list of products is answered: 0 where the numbers are written, else the number that refuses, for a bad product with its position.
 #[repr(C)]
-#[derive(Clone, Copy)]
+#[derive(Clone, Copy, Debug, PartialEq, Eq)]
 pub struct FlatNumbered {
     pub position: usize,
     pub refusal: u16,
@@ -79,7 +79,7 @@ const REFUSED: u16 = 2;
 
 // What a call on a run gives: 0 with the product to ask, 1 where it is done, 2 with the number that refuses.
 #[repr(C)]
-#[derive(Clone, Copy)]
+#[derive(Clone, Copy, Debug, PartialEq, Eq)]
 pub struct FlatStep {
     pub kind: u16,
     pub value: u16,
@@ -87,7 +87,7 @@ pub struct FlatStep {
 
 // A row, or the number that refuses it.
 #[repr(C)]
-#[derive(Clone, Copy)]
+#[derive(Clone, Copy, Debug, PartialEq, Eq)]
 pub struct FlatRow {
     pub pattern: u16,
     pub count: u16,
@@ -96,7 +96,7 @@ pub struct FlatRow {
 
 // How many rows were copied, or the number that refuses.
 #[repr(C)]
-#[derive(Clone, Copy)]
+#[derive(Clone, Copy, Debug, PartialEq, Eq)]
 pub struct FlatCopied {
     pub rows: usize,
     pub refusal: u16,
@@ -104,7 +104,7 @@ pub struct FlatCopied {
 
 // How many bytes the card written has, or the number that refuses it.
 #[repr(C)]
-#[derive(Clone, Copy)]
+#[derive(Clone, Copy, Debug, PartialEq, Eq)]
 pub struct FlatWritten {
     pub length: usize,
     pub refusal: u16,

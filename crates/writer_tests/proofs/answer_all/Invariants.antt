@@ -1,6 +1,5 @@
 -- `writer_tests::answer_all` is safe, and ends: each call is further on in the file.
 use Prim.Native.Nat.{◌≤◌, ◌-◌}
-use borrow.Author.Rules.{rules}
 use lib.ListN.{length}
 use Rattle.writer_tests.proofs.answer_all.Given as goal
 
