@@ -20,13 +20,20 @@ use denote.Array.{array_val}
 use denote.Memory.{cell_at}
 use denote.Steps.{nothing}
 use denote.Struct.Laws as SL
+use Rattle.run_record.specs.Record.{run_of}
+use Rattle.run_record.specs.declared.Head.{Head}
 use Rattle.run_record.specs.declared.Run.{Run}
+use Rattle.run_record.specs.declared.Turn.{Turn}
 use Rattle.lent_walks.proofs.Thin.{Data, Good, struct, enum, signed, unsigned}
 use Rattle.lent_walks.proofs.Arrays.{array_of}
 use Rattle.run_record.specs.contracts.Run as R
 use Rattle.run_record.proofs.Run.TheLaws as R'
+use Rattle.run_record.specs.contracts.Head as N
+use Rattle.run_record.proofs.Head.TheLaws as N'
 use Rattle.run_record.specs.contracts.Step as S
 use Rattle.run_record.proofs.Step.TheLaws as S'
+use Rattle.run_record.specs.contracts.Turn as T
+use Rattle.run_record.proofs.Turn.TheLaws as T'
 
 abbrev pub RunD : Data
 RunD = struct R.the_type R'.the_laws R'.the_plain R'.the_copy
@@ -189,7 +196,60 @@ good h k =
       ),
     )
 
--- ---- a step
+-- ---- the numbers of a record, and those of a turn
+
+abbrev pub HeadD : Data
+HeadD = struct N.the_type N'.the_laws N'.the_plain N'.the_copy
 
 abbrev pub StepD : Data
 StepD = enum S.the_type S'.the_laws tt S'.the_plain S'.the_copy
+
+abbrev pub TurnD : Data
+TurnD = struct T.the_type T'.the_laws T'.the_plain T'.the_copy
+
+abbrev pub head_of : Run → Head
+head_of h =
+    record {
+      polynomials = h.polynomials;
+      asked = h.asked;
+      phase = h.phase;
+      round = h.round;
+      n = h.n;
+      rows = h.rows;
+      answered = h.answered;
+    }
+
+-- the numbers of a record, and what is known of those of a turn
+pub head_is : (h : Run) → Known h → Good HeadD (head_of h)
+head_is h g =
+    SL.owes N.the_type N'.the_laws (head_of h)
+    (g.polynomials, (g.asked, (g.phase, (g.round, (g.n, (g.rows, (g.answered, tt)))))))
+
+turn_head : (t : Turn) → Good TurnD t → Good HeadD t.head
+turn_head t is = (SL.owed T.the_type T'.the_laws t _ is).0
+
+pub turn_step : (t : Turn) → Good TurnD t → Good StepD t.step
+turn_step t is = (SL.owed T.the_type T'.the_laws t _ is).1.0
+
+-- the record after the call
+abbrev pub after : Turn → List ℕ → List ℕ → List ℕ → List ℤ → Run
+after t P C Q A = run_of t.head P C Q A
+
+pub after_known : (t : Turn) (P C Q : List ℕ) (A : List ℤ) → Good TurnD t → Good (array_of ShortD 64) P → Good (array_of ShortD 64) C
+    → Good (array_of ShortD 64) Q → Good (array_of ByteD 128) A
+    → Known (after t P C Q A)
+after_known t P C Q A is p c q a =
+    let g = SL.owed N.the_type N'.the_laws t.head _ (turn_head t is) in
+    record {
+      polynomials = g.0;
+      asked = g.1.0;
+      phase = g.1.1.0;
+      round = g.1.1.1.0;
+      n = g.1.1.1.1.0;
+      rows = g.1.1.1.1.1.0;
+      patterns = p;
+      counts = c;
+      products = q;
+      answered = g.1.1.1.1.1.1.0;
+      answers = a;
+    }

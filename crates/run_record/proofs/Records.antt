@@ -1,7 +1,7 @@
 -- The tests of a record: what they say, what passes them, and what the record stands for then.
 use mathlib.Core.Path.{◌≡◌, refl, sym, ap, ◌∙◌, subst}
 use mathlib.Core.Bool.{Bool, true, false, cond, ◌&&◌}
-use mathlib.Core.List.{[]}
+use mathlib.Core.List.{List, []}
 use Prim.Native.Nat.{ℕ, ◌+◌, ◌*◌, ◌-◌, ◌^◌, ◌≤◌, ◌<◌}
 use native.Mathlib.Decide.{ℕ_discrete}
 use native.Mathlib.Omega.{arith}
@@ -19,7 +19,8 @@ use Rattle.runs.specs.Run.{State, Phase, running, finished, closed, Step, ask, d
 use Rattle.runs.proofs.Steps.{answer-finished, answer-closed, not_late}
 use Rattle.run_parts.specs.Parts.{in_limits}
 use Rattle.run_record.specs.Record.{running_phase, done_phase, most_asked, is_sound, is_running, is_done, state_in, running_state}
-use Rattle.run_record.specs.Record.{run_phase, state_of, ClosedWhere, AnswerGives, started_of, StartGives}
+use Rattle.run_record.specs.Record.{run_phase, run_of, state_of, ClosedWhere, AnswerGives, started_of, StartGives}
+use Rattle.run_record.specs.declared.Head.{Head}
 use Rattle.run_record.specs.declared.Run.{Run}
 
 abbrev place : ℕ → ℕ → ℕ → ℕ → Bool
@@ -154,6 +155,11 @@ phase_is r f e = rw e refl
 pub running_is : (r : Run) → is_running r ≡ true → state_of r ≡ running_state r
 unfolding run_phase
 running_is r e = phase_is r running (rw e refl)
+
+-- whether a run goes on does not hang on its rows and answers
+pub running_parts : (h : Head) (P C Q : List ℕ) (A : List ℤ) → is_running (run_of h [] [] Q []) ≡ is_running (run_of h P C Q A)
+unfolding is_running is_sound
+running_parts h P C Q A = refl
 
 -- a record that is done
 pub done-phase : (r : Run) → is_done r ≡ true → (r.phase ≡ done_phase) × (r.rows ≤ 64)

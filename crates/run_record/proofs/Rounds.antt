@@ -21,7 +21,8 @@ use Rattle.run_round_end.specs.Outcome.{Left}
 use Rattle.rounds.proofs.RowLaws.{length-patterns}
 use Rattle.run_round_end.proofs.StepLaws.{length-counts}
 use Rattle.runs.specs.Run.{State, Step, ask, round_product, ended, end_round, round_step}
-use Rattle.run_record.specs.Record.{running_phase, is_sound, is_running, running_state, state_of}
+use Rattle.run_record.specs.Record.{running_phase, is_sound, is_running, running_state, state_of, run_of}
+use Rattle.run_record.specs.declared.Head.{Head}
 use Rattle.run_record.specs.declared.Run.{Run}
 use Rattle.runs.proofs.Held.{with_patterns, with_own, stored, below_all}
 use Rattle.run_record.proofs.Records.{later_from, sound_below, sound_to, limits_to, running_is, running_to, running_phase_lem}
@@ -151,14 +152,31 @@ module _ (r : Run) (i points rows : ℕ) (Q' : List ℕ) (nP : length r.patterns
       rw e₀ (cc)
 
 -- where a round ends with rows, the numbers before it are all that counts
-pub ends-alike : (r : Run) (P C : List ℕ) (i : ℕ) (R : List Row)
-    → end_round round_rows (running_state (with_rows r P C)) i (some R) ≡ end_round round_rows (running_state r) i (some R)
-ends-alike r P C i R = go (eqb (suc i) r.polynomials)
+pub ends-alike : (h : Head) (P C Q : List ℕ) (A : List ℤ) (P' C' Q' : List ℕ) (A' : List ℤ) (i : ℕ) (R : List Row)
+    → end_round round_rows (running_state (run_of h P C Q A)) i (some R) ≡ end_round round_rows (running_state (run_of h P' C' Q' A')) i
+    (some R)
+ends-alike h P C Q A P' C' Q' A' i R = go (eqb (suc i) h.polynomials)
   where
-    go : (b : Bool) → ended round_rows (running_state (with_rows r P C)) (suc i) r.n R b
-        ≡ ended round_rows (running_state r) (suc i) r.n R b
+    go : (b : Bool) → ended round_rows (running_state (run_of h P C Q A)) (suc i) h.n R b
+        ≡ ended round_rows (running_state (run_of h P' C' Q' A')) (suc i) h.n R b
     go true = refl
     go false = refl
+
+-- of a record with other rows
+pub ends_with : (r : Run) (P C : List ℕ) (i : ℕ) (R : List Row)
+    → end_round round_rows (running_state (with_rows r P C)) i (some R) ≡ end_round round_rows (running_state r) i (some R)
+ends_with r P C i R =
+    ends-alike
+    (record {
+      polynomials = r.polynomials;
+      asked = r.asked;
+      phase = r.phase;
+      round = r.round;
+      n = r.n;
+      rows = r.rows;
+      answered = r.answered;
+    })
+    P C r.products r.answers r.patterns r.counts r.products r.answers i R
 
 -- ---- the end of a round, as the call left it
 

@@ -17,6 +17,7 @@
 --                                  a closed run where it passes neither, whatever it holds
 --   state_of run                 == what the record stands for, in that phase: its numbers, rows, products and answers as they stand, also
 --                                  where no start and no answer could have left them
+--   run_of head P C Q A          == the record put together from its numbers, its patterns, counts and products, and its answers
 --   with_answer r z              == the round's answers with one more
 --   IsClosed run                == the record itself is a closed one: its phase is that of a closed run, and it has no rows and no answers
 --   ClosedWhere run step        == where the step is a refusal the record is a closed one
@@ -35,6 +36,7 @@ use Rattle.run_parts.specs.Parts.{in_limits}
 use Rattle.runs.specs.Run.{Step, ask, done, refused}
 use Rattle.runs.specs.Run.{State, Phase, running, finished, closed, new_in, start_of, answer_of}
 use Rattle.run_record.specs.declared.Run.{Run}
+use Rattle.run_record.specs.declared.Head.{Head}
 use Rattle.run_record.specs.declared.Step as code_step
 use Rattle.run_record.specs.declared.Step.TheVariants as steps
 
@@ -71,6 +73,23 @@ is_running r = eqb r.phase running_phase && is_sound r
 
 unfoldable pub is_done : Run → Bool
 is_done r = eqb r.phase done_phase && leb r.rows most_points
+
+-- the numbers and the four lists put together
+abbrev pub run_of : Head → List ℕ → List ℕ → List ℕ → List ℤ → Run
+run_of h P C Q A =
+    record {
+      polynomials = h.polynomials;
+      asked = h.asked;
+      phase = h.phase;
+      round = h.round;
+      n = h.n;
+      rows = h.rows;
+      patterns = P;
+      counts = C;
+      products = Q;
+      answered = h.answered;
+      answers = A;
+    }
 
 -- the answers of the round with one more
 abbrev pub with_answer : Run → ℤ → List ℤ

@@ -5,18 +5,20 @@
 // RUNNING, the numbers are in their limits (`in_limits`) and, after round 0, the products kept are below 3^(round − 1); else 7, and the record is as
 // it was. It is worked out from the patterns, counts and answers as they stand; at a round's end, patterns that do not rise or are not below
 // 3^(round − 1), and counts of 0 or of more than 64 together, give 10.
+//
+// `answer_parts` is an answer to a record in parts: its numbers by value (`Head`), its arrays lent. It requires the lengths of the arrays.
 #![tactic(auto)]
 
-ghost use Rattle.std.specs.Prelude.{◌≡◌, true, false, suc, ◌+◌, ◌*◌, ◌-◌, ◌^◌, ◌≤◌, ◌<◌, nat_abs, take};
+ghost use Rattle.std.specs.Prelude.{◌≡◌, true, false, List, ℕ, suc, ◌+◌, ◌*◌, ◌-◌, ◌^◌, ◌≤◌, ◌<◌, ℤ, nat_abs, length, take};
 ghost use Rattle.std.proofs.Math.Option.{some};
 ghost use Rattle.refusals.specs.Limits.{most_polynomials, most_points};
 ghost use Rattle.refusals.specs.Refusals.{number_of};
 ghost use Rattle.signs.specs.Lists.{Below, Rising};
 ghost use Rattle.rounds.specs.Rows.{rows_with};
 ghost use Rattle.rounds.specs.RoundEnd.{round_rows};
-ghost use Rattle.runs.specs.Run.{close as close_of, round_step, end_round, ended, first_answer as first_of, later_answer as later_of};
+ghost use Rattle.runs.specs.Run.{ask, close as close_of, round_step, end_round, ended, first_answer as first_of, later_answer as later_of};
 ghost use Rattle.run_parts.specs.Parts.{in_limits};
-ghost use Rattle.run_record.specs.Record.{running_phase, most_asked, is_sound, is_running, running_state, with_answer, state_of, step_of, IsClosed, ClosedWhere, AnswerGives, StartIn};
+ghost use Rattle.run_record.specs.Record.{running_phase, most_asked, is_sound, is_running, running_state, with_answer, run_of, state_of, step_of, IsClosed, ClosedWhere, AnswerGives, StartGives, StartIn};
 
 use adapted::adapted;
 use refusals::{MOST_POLYNOMIALS, MOST_PRODUCTS, MOST_ROWS, Refusal};
@@ -265,4 +267,109 @@ impl Run {
             self.later_answer(a)
         }
     }
+}
+
+// ---- a record in parts
+
+// The numbers of a record, without its arrays.
+#[derive(Clone, Copy, Debug, PartialEq, Eq)]
+pub struct Head {
+    pub polynomials: usize,
+    pub asked: usize,
+    pub phase: u8,
+    pub round: usize,
+    pub n: u64,
+    pub rows: usize,
+    pub answered: usize,
+}
+
+// The numbers after a call, and the step.
+#[derive(Clone, Copy, Debug, PartialEq, Eq)]
+pub struct Turn {
+    pub head: Head,
+    pub step: Step,
+}
+
+// The numbers of a record before the first answer: with arrays that hold anything, it is that of a start for s polynomials.
+pub fn first_head(s: usize) -> Head
+    ensures { (P C Q : List ℕ) (A : List ℤ) → 1 ≤ s → s ≤ most_polynomials → StartGives s (run_of result P C Q A) (ask 0) }
+{
+    Head {
+        polynomials: s,
+        asked: 0,
+        phase: RUNNING,
+        round: 0,
+        n: 0,
+        rows: 0,
+        answered: 0,
+    }
+}
+
+// The record with these numbers and arrays.
+fn together(head: Head, patterns: &[u16], counts: &[u16], products: &[u16], answers: &[i8]) -> Run
+    requires { (length patterns.now ≡ most_points) × (length counts.now ≡ most_points) × (length products.now ≡ most_points) × (length answers.now ≡ 2 * most_points) }
+    ensures { result ≡ run_of head patterns.now counts.now products.now answers.now }
+{
+    let mut run = Run {
+        polynomials: head.polynomials,
+        asked: head.asked,
+        phase: head.phase,
+        round: head.round,
+        n: head.n,
+        rows: head.rows,
+        patterns: [0u16; MOST_ROWS],
+        counts: [0u16; MOST_ROWS],
+        products: [0u16; MOST_ROWS],
+        answered: head.answered,
+        answers: [0i8; MOST_PRODUCTS],
+    };
+    run.patterns.copy_from_slice(patterns);
+    run.counts.copy_from_slice(counts);
+    run.products.copy_from_slice(products);
+    run.answers.copy_from_slice(answers);
+    run
+}
+
+// Copies the arrays of the record to those that were lent.
+fn hand_back(
+    run: &Run,
+    patterns: &mut [u16],
+    counts: &mut [u16],
+    products: &mut [u16],
+    answers: &mut [i8],
+)
+    requires { (length patterns.old ≡ most_points) × (length counts.old ≡ most_points) × (length products.old ≡ most_points) × (length answers.old ≡ 2 * most_points) }
+    ensures { (patterns.new ≡ run.now.patterns) × (counts.new ≡ run.now.counts) × (products.new ≡ run.now.products) × (answers.new ≡ run.now.answers) }
+{
+    patterns.copy_from_slice(&run.patterns);
+    counts.copy_from_slice(&run.counts);
+    products.copy_from_slice(&run.products);
+    answers.copy_from_slice(&run.answers);
+}
+
+// The answer a to a record in parts: its numbers by value, its arrays lent and updated where they lie. It is that of the record put together from them.
+pub fn answer_parts(
+    head: Head,
+    patterns: &mut [u16],
+    counts: &mut [u16],
+    products: &mut [u16],
+    answers: &mut [i8],
+    a: i64,
+) -> Turn
+    requires { (length patterns.old ≡ most_points) × (length counts.old ≡ most_points) × (length products.old ≡ most_points) × (length answers.old ≡ 2 * most_points) }
+    ensures { AnswerGives (run_of head patterns.old counts.old products.old answers.old) a (run_of result.head patterns.new counts.new products.new answers.new) (step_of result.step) }
+{
+    let mut run = together(head, patterns, counts, products, answers);
+    let step = run.answer(a);
+    hand_back(&run, patterns, counts, products, answers);
+    let head = Head {
+        polynomials: run.polynomials,
+        asked: run.asked,
+        phase: run.phase,
+        round: run.round,
+        n: run.n,
+        rows: run.rows,
+        answered: run.answered,
+    };
+    Turn { head, step }
 }

@@ -17,7 +17,7 @@ use Rattle.run_record.specs.Record.{running_state}
 use Rattle.runs.proofs.Ends.{ends-rising, ends-below, ends_some}
 use Rattle.runs.proofs.Held.{with_length}
 use Rattle.run_record.proofs.Records.{Later, later_from}
-use Rattle.run_record.proofs.Rounds.{HasRows, left_some, some-few, some-counts, some-held, some_copied, ends-alike, running_with}
+use Rattle.run_record.proofs.Rounds.{HasRows, left_some, some-few, some-counts, some-held, some_copied, ends_with, running_with}
 use Rattle.run_record.proofs.Run.end_round.Goals as goal
 use Rattle.run_record.proofs.Run.end_round.Goals.{After-copy_front-in-Some, After-find_rows-next, Start}
 
@@ -135,5 +135,5 @@ returns-in-Some c =
     let C = c.copy_front-in-Some.new.out in
     let e = some-held (after (goal.at.returns-in-Some c).Start) (n) P C (moved (goal.at.returns-in-Some c).After-copy_front-in-Some) in
     let k = c.next_round.ensures in
-    let l = ends-alike r P C (r.round - 1) (rows_with (take (n) P) (take (n) C)) in
+    let l = ends_with r P C (r.round - 1) (rows_with (take (n) P) (take (n) C)) in
     (rw e (k.0 ∙ l), k.1)

@@ -1,5 +1,5 @@
 -- `Run::first_answer` meets its contract.
-use mathlib.Core.Path.{◌≡◌, ◌∙◌}
+use mathlib.Core.Path.{◌≡◌, sym, ◌∙◌}
 use native.Mathlib.Omega.{arith}
 use borrow.Author.Tests.{ne_eqb}
 use lib.IntN.{pos, nat_abs}
@@ -13,11 +13,28 @@ use Rattle.run_record.specs.Record.{running_state}
 use Rattle.runs.proofs.Held.{rising-one, below_one}
 use Rattle.run_record.proofs.Records.{sound-limits, sound-asked, running_phase_lem, running-sound, done_open, ask_open}
 use Rattle.run_record.proofs.Rounds.{first-front, first-row}
-use Rattle.runs.proofs.Steps.{first_some}
+use Rattle.runs.specs.Run.{close as close_of, first_answer as first_of}
+use Rattle.runs.proofs.Steps.{first_below, first_above, first_some}
 use Rattle.run_record.proofs.Run.first_answer.Goals as goal
+use Rattle.run_record.proofs.Run.first_answer.Goals.{then-a-lt0-via-then-a-lt0, then-a-lt0-via-else-a-lt0+then-n-gt-MOST_POINTS}
 
 pub close-requires : goal.close-requires
 close-requires c = sound-asked c.args.self.now (running-sound c.args.self.now c.requires.0)
+
+-- below 0 or above 64: closed by 8
+pub returns-then-a-lt0 : goal.returns-then-a-lt0
+returns-then-a-lt0 c =
+    let r = running_state c.args.self.now in
+    let e = to_z-of_z w64 c.args.a c.ranges.a in
+    let m = rw e at c.unsigned_abs-n.ensures.value in
+    let f : first_of round_rows r c.args.a ≡ close_of round_rows r 8 =
+    elim c.then-a-lt0.branch [
+      | then-a-lt0-via-then-a-lt0 w ↦ first_below round_rows r c.args.a (omega (int, w.if-a-lt0.true))
+      | then-a-lt0-via-else-a-lt0+then-n-gt-MOST_POINTS w ↦
+          first_above round_rows r c.args.a (omega (int, w.if-a-lt0.false)) (omega (arith, w.if-n-gt-MOST_POINTS.true, m))
+    ] in
+    let k = c.close.ensures in
+    (k.0 ∙ sym f, λ j _. k.1)
 
 pub finish-requires : goal.finish-requires
 finish-requires c = (sound-asked c.args.self.now (running-sound c.args.self.now c.requires.0), omega arith)
