@@ -8,11 +8,10 @@
 --                          slices keep what lies past the result"; else 15, too short, and the slice as it was
 --   written_of c out     == what the call for the printout of the card c gives, and the slice out after it
 --   Placed t out o out' == the same of a text t apart from that definition: a call with the slice out that gives o and leaves out'
-use Rattle.std.specs.Prelude.{◌≡◌, cond, List, ◌++◌, ℕ, ◌+◌, ◌*◌, ◌<◌, ◌≤◌, leb, Result, Ok, Err, length, take, drop}
+use Rattle.std.specs.Prelude.{◌≡◌, cond, List, ◌++◌, ℕ, ◌+◌, ◌*◌, ◌<◌, ◌≤◌, leb, Result, Ok, length, take, drop}
 use Rattle.refusals.specs.Numbers.{too_short}
 use Rattle.refusals.specs.Refusals.{refusing}
 use Rattle.refusals.specs.declared.Refusal.{Refusal}
-use Rattle.refusals.specs.declared.Refusal.TheVariants.{TooShort}
 use Rattle.refusals.specs.Limits.{most_points, most_questions}
 use Rattle.lines.specs.Text.{longest_line}
 use Rattle.printout.specs.Printout.{printout_of}
@@ -33,7 +32,7 @@ abbrev pub written_of : List ℕ → List ℕ → Result ℕ Refusal × List ℕ
 written_of c out = placed (printout_of c) out
 
 pub record Placed (t out : List ℕ) (o : Result ℕ Refusal) (out' : List ℕ) : Type 0 where
-  pub short : length out < length t → (o ≡ Err TooShort) × (out' ≡ out)
+  pub short : length out < length t → (o ≡ refusing 15) × (out' ≡ out)
   pub whole : length t ≤ length out → o ≡ Ok (length t)
   pub front : length t ≤ length out → take (length t) out' ≡ t
   pub rest : length t ≤ length out → drop (length t) out' ≡ drop (length t) out

@@ -15,7 +15,6 @@ use Rattle.std.specs.Prelude.{◌≡◌, ◌≢◌, ◌↔◌, List, ℕ, ◌^�
 use Rattle.refusals.specs.Numbers.{card_numbers, Among}
 use Rattle.refusals.specs.Refusals.{by_number}
 use Rattle.refusals.specs.declared.Refusal.{Refusal}
-use Rattle.refusals.specs.declared.Refusal.TheVariants.{TooShort, WrongProduct}
 use Rattle.signs.specs.Signs.{query}
 use Rattle.layout.specs.Format.{polynomials}
 use Rattle.card.specs.Card.{refusal}
@@ -35,8 +34,8 @@ pub record FirstPast (b : ℕ) (l : List ℕ) (p : ℕ) : Type 0 where
   pub first : (k : ℕ) → k < p → get_or l k 0 < b
 
 pub record ListGives (s : ℕ) (number : ℕ → ℤ) (l : List ℕ) (out : List ℤ) (o : Listed) (out' : List ℤ) : Type 0 where
-  pub is_15 : (e : Refusal) → (o ≡ refused e) ↔ ((e ≡ TooShort) × (length out < length l))
-  pub is_13 : (e : Refusal) (p : ℕ) → (o ≡ refused_at e p) ↔ ((e ≡ WrongProduct) × (length l ≤ length out) × FirstPast (3 ^ s) l p)
+  pub is_15 : (e : Refusal) → (o ≡ refused e) ↔ ((e ≡ by_number 15) × (length out < length l))
+  pub is_13 : (e : Refusal) (p : ℕ) → (o ≡ refused_at e p) ↔ ((e ≡ by_number 13) × (length l ≤ length out) × FirstPast (3 ^ s) l p)
   pub is_written : (o ≡ written) ↔ ((length l ≤ length out) × AllBelow (3 ^ s) l)
   pub kept : o ≢ written → out' ≡ out
   pub shown : o ≡ written → (k : ℕ) → k < length l → get_or out' k (pos 0) ≡ number (get_or l k 0)

@@ -8,9 +8,8 @@
 --   SolverClaim s L xs out r left   == a call on s, the list L, the numbers xs and a slice that held out may answer r and leave left there
 use Rattle.std.specs.Prelude.{◌≡◌, ◌↔◌, List, [], ◌∷◌, ◌++◌, ℕ, ◌^◌, ◌≤◌, ℤ, length, drop, Result, Ok, Err}
 use Rattle.refusals.specs.Numbers.{Among}
-use Rattle.refusals.specs.Refusals.{number_of}
+use Rattle.refusals.specs.Refusals.{number_of, refusing}
 use Rattle.refusals.specs.declared.Refusal.{Refusal}
-use Rattle.refusals.specs.declared.Refusal.TheVariants.{WrongCount, WrongList, NoSolution, TooShort}
 use Rattle.signs.specs.Lists.{Below, Rising}
 use Rattle.solutions.specs.Solution.{Solution}
 
@@ -32,13 +31,13 @@ Solvable s L xs = (ws : List ℤ) × Solution s L xs ws
 
 pub record SolverClaim (s : ℕ) (L : List ℕ) (xs out : List ℤ) (r : Result (Unit {0}) Refusal) (left : List ℤ) : Type 0 where
   -- "s or n outside its limits, also s .. in the solver"
-  pub three : (r ≡ Err WrongCount) ↔ (CountFits s → ⊥)
+  pub three : (r ≡ refusing 3) ↔ (CountFits s → ⊥)
   -- "list not rising, over 64 long, a pattern above 3^s − 1, or not as many numbers as patterns"
-  pub eleven : (r ≡ Err WrongList) ↔ (CountFits s × (ListFits s L xs → ⊥))
+  pub eleven : (r ≡ refusing 11) ↔ (CountFits s × (ListFits s L xs → ⊥))
   -- "an output slice too short"
-  pub fifteen : (r ≡ Err TooShort) ↔ (CountFits s × ListFits s L xs × (RoomFits L out → ⊥))
+  pub fifteen : (r ≡ refusing 15) ↔ (CountFits s × ListFits s L xs × (RoomFits L out → ⊥))
   -- "no solution as above"
-  pub twelve : (r ≡ Err NoSolution) ↔ (CountFits s × ListFits s L xs × RoomFits L out × (Solvable s L xs → ⊥))
+  pub twelve : (r ≡ refusing 12) ↔ (CountFits s × ListFits s L xs × RoomFits L out × (Solvable s L xs → ⊥))
   pub found : (r ≡ Ok tt) ↔ (CountFits s × ListFits s L xs × RoomFits L out × Solvable s L xs)
   -- the numbers at the front, and "longer output slices keep what lies past the result"
   pub written : (ws : List ℤ) → r ≡ Ok tt → Solution s L xs ws → left ≡ ws ++ drop (length L) out
