@@ -66,11 +66,12 @@ module _ (Gives : Listed → Type 0) where
       (cond t (refused_at (by_number wrong_product) p, out) (written, w))).0 in
       Gives a → ListPlain Gives (flat_numbered_of a)
   unfolding flat_numbered_of numbered_from
-  plain_of zero p true out w h g = record { gives = g; no_position = λ n. absurd (n refl) }
-  plain_of zero p false out w h g = record { gives = g; no_position = λ n. refl }
+  plain_of zero p true out w h g = record { gives = g; no_position = λ n. absurd (n refl); known = omega arith }
+  plain_of zero p false out w h g = record { gives = g; no_position = λ n. refl; known = omega arith }
   plain_of (suc k) p t out w h g = record {
     gives = rw (number_by (suc k) (omega arith) h.most, eqb-suc-zero k, ne_eqb (suc k) 13 h.no_product) g;
     no_position = λ n. refl;
+    known = rw (number_by (suc k) (omega arith) h.most) h.most;
   }
 
   plain : (k : Opened) (l : List ℕ) (out : List ℤ) → let a = (opened_listing k l out).0 in Gives a → ListPlain Gives (flat_numbered_of a)

@@ -4,8 +4,9 @@
 --                       where there is none
 --   flat_listing g    == the same, with the slice as it is left
 --   numbered_from t   == written where the refusal is 0, refused with the position where it is 13, else refused by the number
---   ListPlain P t    == what P says of the answer that t stands for; and the position is 0 but for a bad product
-use Rattle.std.specs.Prelude.{◌≡◌, ◌≢◌, cond, List, eqb, ℤ, Ok, Err, unwrap_or}
+--   ListPlain P t    == what P says of the answer that t stands for; the position is 0 but for a bad product, and the number is 0 or that
+--                       of a refusal
+use Rattle.std.specs.Prelude.{◌≡◌, ◌≢◌, ◌≤◌, cond, List, eqb, ℤ, Ok, Err, unwrap_or}
 use Rattle.refusals.specs.Numbers.{wrong_product}
 use Rattle.refusals.specs.Refusals.{number_of, by_number}
 use Rattle.query_list.specs.Listing.{Listed, written, refused, refused_at}
@@ -26,3 +27,4 @@ numbered_from t =
 pub record ListPlain (Gives : Listed → Type 0) (t : FlatNumbered) : Type 0 where
   pub gives : Gives (numbered_from t)
   pub no_position : t.refusal ≢ 13 → t.position ≡ 0
+  pub known : t.refusal ≤ 18
