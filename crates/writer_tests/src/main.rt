@@ -6,7 +6,7 @@
 // has eight bytes, high byte first, in two's complement.
 #![tactic(auto)]
 
-ghost use Rattle.std.specs.Prelude.{◌≤◌, length, IfOk};
+ghost use Rattle.std.specs.Prelude.{◌≤◌, ◌<◌, length, IfOk};
 
 use refusals::Refusal;
 use std::io;
@@ -55,9 +55,17 @@ fn read_numbers<T: Copy, F: Fn(u64) -> T>(file: &[u8], at: usize, out: &mut [T],
 
 // ---- what is written
 
+// A digit to the base 16.
+fn hexadecimal(d: u8) -> u8
+    requires { d < 16 }
+{
+    if d < 10 { b'0' + d } else { b'a' + (d - 10) }
+}
+
+// Each byte in one write: a text made by `write!` goes out in parts.
 fn print_bytes(out: &mut impl Write, bytes: &[u8]) -> io::Result<()> {
     for b in bytes {
-        write!(out, "{b:02x}")?;
+        out.write_all(&[hexadecimal(*b / 16), hexadecimal(*b % 16)])?;
     }
     Ok(())
 }
